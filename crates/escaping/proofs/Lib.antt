@@ -1,0 +1,4 @@
+pub mod Listed
+pub mod Collide
+pub mod Pieces
+pub mod Steps

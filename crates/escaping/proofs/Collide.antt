@@ -12,7 +12,7 @@ use lib.ListN.{length}
 use Rattle.std.specs.shelf.Text.{sameBytes}
 use Rattle.std.proofs.shelf.Equals.{sameBytes-decides}
 use Rattle.std.proofs.shelf.Tests.{and-parts, false≢true, not-true, or-cases}
-use Rattle.escaping.specs.Escape.{member, replaced, reserved, sign, words}
+use Rattle.escaping.specs.Escape.{escape, member, replaced, reserved, sign, words}
 use Rattle.escaping.specs.Laws.{No-collision, Worked-names}
 
 -- a sign of a name: two underscores, one of the three that are written out, or any other
@@ -258,8 +258,9 @@ by-escape s t false true f g e = absurd (word-apart t (codes "__") s (reserved-a
 by-escape s t false false f g e = replaced-apart s t e
 
 pub no-collision : No-collision
+unfolding escape
 no-collision s t e = by-escape s t (reserved s) (reserved t) refl refl e
 
 pub worked-names : Worked-names
-unfolding replaced
+unfolding escape replaced
 worked-names = record { dotted = refl; spelled = refl; doubled = refl }

@@ -32,5 +32,5 @@ abbrev pub wrapped : List ℕ → List ℕ
 wrapped s = codes "__" ++ (s ++ codes "__")
 
 -- how any name is written
-abbrev pub escape : List ℕ → List ℕ
+unfoldable pub escape : List ℕ → List ℕ
 escape s = cond (reserved s) (wrapped s) (replaced s)

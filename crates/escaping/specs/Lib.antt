@@ -1,3 +1,4 @@
 pub mod Answers
 pub mod Escape
 pub mod Laws
+pub mod Left

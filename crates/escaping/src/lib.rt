@@ -1,10 +1,12 @@
 // How a field's name is written as an identifier of a rule.
 ghost use Rattle.escaping.specs.Laws.{No-collision, Worked-names};
 
+mod compare;
 mod escape;
 mod piece;
 mod words;
 
+pub use compare::compare_escaped;
 pub use escape::escape_field_name;
 pub use escape::escaped_len;
 pub use words::is_reserved;
@@ -13,5 +15,7 @@ pub use words::is_reserved;
 pub fn escaping_stands()
     ensures no_collision { λ _. ⌜ No-collision ⌝ }
     ensures worked { λ _. ⌜ Worked-names ⌝ }
-{
-}
+{}
+
+#[cfg(test)]
+mod tests;

@@ -18,15 +18,30 @@ pub fn first_piece(name: &[u8]) -> Option<Piece<'_>>
     ensures { λ r. ⌜ BySome r
         (now (name .entry) ≡ [])
         (λ p. (replaced (now (name .entry)) ≡ now (p .text) ++ replaced (now (p .rest)))
-            × (0 < length (now (p .text)))
-            × (length (now (p .rest)) < length (now (name .entry)))) ⌝ }
+        × (0 < length (now (p .text)))
+        × (length (now (p .rest)) < length (now (name .entry)))) ⌝ }
 {
     match name {
         [] => None,
-        [b'_', b'_', rest @ ..] => Some(Piece { text: b"__underscores__", rest }),
-        [b'.', rest @ ..] => Some(Piece { text: b"__dot__", rest }),
-        [b'-', rest @ ..] => Some(Piece { text: b"__dash__", rest }),
-        [b'/', rest @ ..] => Some(Piece { text: b"__slash__", rest }),
-        [_, rest @ ..] => Some(Piece { text: &name[0..1], rest }),
+        [b'_', b'_', rest @ ..] => Some(Piece {
+            text: b"__underscores__",
+            rest,
+        }),
+        [b'.', rest @ ..] => Some(Piece {
+            text: b"__dot__",
+            rest,
+        }),
+        [b'-', rest @ ..] => Some(Piece {
+            text: b"__dash__",
+            rest,
+        }),
+        [b'/', rest @ ..] => Some(Piece {
+            text: b"__slash__",
+            rest,
+        }),
+        [_, rest @ ..] => Some(Piece {
+            text: &name[0..1],
+            rest,
+        }),
     }
 }

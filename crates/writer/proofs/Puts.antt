@@ -1,17 +1,17 @@
 -- Writes one after another.
 use mathlib.Core.Path.{_≡_, refl, sym, ap, _∙_}
 use mathlib.Core.Bool.{true, false, cond}
-use mathlib.Core.List.{List, [], _++_, append-assoc}
+use mathlib.Core.List.{List, [], _++_, append-assoc, append-nil}
 use Prim.Native.Nat.{ℕ, _+_, _-_, _<_, _≤_}
 use native.Mathlib.Omega.{arith}
 use native.Mathlib.Nat.{add-zero}
-use lib.ListN.{length, take, drop, length-append}
+use lib.ListN.{length, take, drop, length-append, drop-of-length-le}
 use lib.Seq.{paste}
 use borrow.Rule.Slice.PartMut.{putMid}
 use Rattle.std.proofs.shelf.Lists.{take-append-drop}
 use Rattle.std.proofs.shelf.Edits.{paste-all, paste-paste, length-paste}
 use Rattle.std.proofs.shelf.Parts.{putMid-paste}
-use Rattle.std.proofs.shelf.Tests.{leb-true, leb-false}
+use Rattle.std.proofs.shelf.Tests.{le-leb, leb-true, leb-false}
 use Rattle.writer.specs.Written.{fits, moved, put, written}
 
 put-paste : (d : List ℕ) (at : ℕ) (s : List ℕ) → paste d at s (length s) ≡ put d at s
@@ -83,3 +83,13 @@ pub stayed-then : (out : List ℕ) (at : ℕ) (s t : List ℕ) {out′ : List �
 stayed-then out at s t {out′} {at′} g f =
     let n = length-append s t in
     omega (arith, stayed out′ at′ t f, g .end, g .long)
+
+-- a write that fills the buffer
+pub put-whole : (d s : List ℕ) → length s ≡ length d → put d 0 s ≡ s
+unfolding put
+put-whole d s h =
+    let none : drop (0 + length s) d ≡ [] = drop-of-length-le d (omega arith) in
+    ap (λ t. s ++ t) none ∙ append-nil s
+
+pub written-whole : (d s : List ℕ) → length s ≡ length d → written d 0 s ≡ s
+written-whole d s h = ap (λ b. cond b (put d 0 s) d) (le-leb (0 + length s) (length d) (omega arith)) ∙ put-whole d s h

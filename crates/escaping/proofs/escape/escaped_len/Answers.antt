@@ -11,6 +11,7 @@ use Rattle.escaping.proofs.Steps.{checked-counts}
 use Rattle.escaping.proofs.escape.escaped_len.Needs as need
 
 pub returns-then-is-reserved : need.returns-then-is-reserved
+unfolding escape
 returns-then-is-reserved c =
     let s = c .args .name .now in
     let e : escape s ≡ codes "__" ++ (s ++ codes "__") = ap (λ (b : Bool). cond b (codes "__" ++ (s ++ codes "__")) (replaced s)) (sym (c .is-reserved .ensures) ∙ c .if-is-reserved .taken) in
@@ -18,6 +19,7 @@ returns-then-is-reserved c =
     checked-counts (c .checked-add .result) (length s + 4) (c .checked-add .ensures) ∙ ap counted n
 
 pub returns : need.returns
+unfolding escape
 returns c =
     let s = c .args .name .now in
     let e : escape s ≡ replaced s = ap (λ (b : Bool). cond b (codes "__" ++ (s ++ codes "__")) (replaced s)) (sym (c .is-reserved .ensures) ∙ c .if-is-reserved .left) in

@@ -35,8 +35,7 @@ loop-piece-again c =
     let p = c .in-Some .piece in
     let e = c .in-Continue-put .ensures tt in
     let s = c .in-Some .ensures tt .0 in
-    let g : Went (l .out .now) (l .at) (p .text .now) (c .put .last .self .out .now) (c .put .last .self .at) = went (l .out .now) (l .at) (p .text .now) (sym (e .ok)) (e .out) (e .at) in
-    (
+    let g : Went (l .out .now) (l .at) (p .text .now) (c .put .last .self .out .now) (c .put .last .self .at) = went (l .out .now) (l .at) (p .text .now) (sym (e .ok)) (e .out) (e .at) in (
       g .before (replaced (p .rest .now)) ∙ (ap (put (l .out .now) (l .at)) (sym s) ∙ c .loop-piece .inv .0),
       write-more (l .at) (c .loop-piece .left .now) (p .text .now) (p .rest .now) s (g .end) ∙ c .loop-piece .inv .1,
       g .long ∙ c .loop-piece .inv .2,

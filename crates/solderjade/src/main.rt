@@ -1,0 +1,39 @@
+// The program: a verb and its words on the command line, and what it prints.
+mod escape;
+mod failure;
+mod usage;
+
+use failure::Failure;
+use failure::FailureFromAlloc;
+use failure::FailureFromIo;
+use std::alloc::Global;
+use std::env;
+use std::io::Write;
+
+// What a call prints, by its verb and the words behind it.
+fn answer(heap: Global, words: &[String]) -> Result<Vec<u8>, Failure> {
+    let [verb, rest @ ..] = words else {
+        return Err(Failure::Usage);
+    };
+    match verb.as_str() {
+        "escape" => escape::escape(heap, rest),
+        "help" => usage::help(heap),
+        _ => Err(Failure::Usage),
+    }
+}
+
+fn run(rt: &LibcRuntime) -> Result<(), Failure> {
+    let heap = rt.alloc();
+    let words: Vec<String> = env::args(rt)?.skip(1).collect(heap)?;
+    let text = answer(heap, words.as_slice())?;
+    rt.stdout().write_all(text.as_slice())?;
+    Ok(())
+}
+
+fn main(rt: LibcRuntime) -> Result<(), Failure> {
+    let done = run(&rt);
+    if let Err(failure) = &done {
+        failure.tell(&rt);
+    }
+    done
+}

@@ -1,6 +1,10 @@
 // The program: a verb and its words on the command line, and what it prints.
+mod bytes;
+mod duration;
 mod escape;
 mod failure;
+mod hex;
+mod lines;
 mod usage;
 
 use failure::Failure;
@@ -16,7 +20,9 @@ fn answer(heap: Global, words: &[String]) -> Result<Vec<u8>, Failure> {
         return Err(Failure::Usage);
     };
     match verb.as_str() {
-        "escape" => escape::escape(heap, rest),
+        "bytes" => bytes::print_bytes(heap, rest),
+        "duration" => duration::print_durations(heap, rest),
+        "escape" => escape::print_escapes(heap, rest),
         "help" => usage::help(heap),
         _ => Err(Failure::Usage),
     }
@@ -37,3 +43,6 @@ fn main(rt: LibcRuntime) -> Result<(), Failure> {
     }
     done
 }
+
+#[cfg(test)]
+mod tests;

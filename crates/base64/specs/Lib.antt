@@ -1,0 +1,3 @@
+pub mod Base64
+pub mod Base64Cases
+pub mod Base64Decoder

@@ -1,0 +1,10 @@
+pub mod DurationOptions
+pub mod DurationFigures
+pub mod DurationAmounts
+pub mod DurationSums
+pub mod DurationCases
+pub mod DurationTexts
+pub mod DurationComplete
+pub mod DurationSound
+pub mod DurationUnique
+pub mod DurationLaw

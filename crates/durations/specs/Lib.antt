@@ -1,0 +1,3 @@
+pub mod Duration
+pub mod DurationGrammar
+pub mod DurationCases

@@ -1,7 +1,7 @@
 -- What is shown of an answer, and buffers that are filled whole.
 use mathlib.Core.Path.{_≡_, refl, sym, ap, _∙_}
 use mathlib.Core.Bool.{Bool, true, false, cond}
-use mathlib.Core.List.{List, [], _∷_, _++_, append-assoc, append-nil}
+use mathlib.Core.List.{List, [], _∷_, _++_, append-nil, map}
 use Prim.Native.Nat.{ℕ, _+_, _/_, _%_, _^_, _<_}
 use native.Mathlib.Omega.{arith}
 use lib.Dec.{leb, ltb}
@@ -9,13 +9,13 @@ use lib.ListN.{length, getD, take, drop, drop-of-length-le}
 use Rattle.std.specs.Options.{mapped}
 use Rattle.std.specs.declared.option.Option.{Option}
 use Rattle.std.specs.declared.option.Option.the-variants.{Some, None}
-use Rattle.std.proofs.shelf.Lists.{take-at, take-more, take-all}
+use Rattle.std.proofs.shelf.Lists.{joined-more, map-more, take-all, take-at, take-more}
 use Rattle.std.proofs.shelf.Tests.{le-leb}
 use Rattle.base64.specs.Base64Decoder.{filled}
 use Rattle.escaping.specs.Answers.{counted}
 use Rattle.writer.specs.Written.{written}
 use Rattle.writer.proofs.Puts.{written-whole}
-use Rattle.solderjade.specs.Shown.{hex-digit, hexed, shown-bytes}
+use Rattle.solderjade.specs.Shown.{hex-digit, hexed, lines-of, shown-bytes}
 
 by-count : (n m : ℕ) (b : Bool) → Some m ≡ cond b (Some n) None → m ≡ n
 by-count n m true e = cc
@@ -60,3 +60,12 @@ decoded-whole (Some bytes) m n before out items c a b e l =
     let room : leb (length bytes) (length before) ≡ true = le-leb (length bytes) (length before) (omega arith) in
     let whole : out ≡ bytes = e ∙ by-room bytes before (leb (length bytes) (length before)) room (omega arith) in
     ap hexed (take-at out (drop (length out) items) n l ∙ whole)
+
+-- a line more
+pub lines-more : {X : Type 0} (line : List ℕ → List ℕ) (word : X → List ℕ) (xs : List X) (i : ℕ) (x : X) {before after : List ℕ} → i < length xs → x ≡ getD xs i x → before ≡ lines-of line (map word (take i xs)) → after ≡ before ++ (line (word x) ++ 10 ∷ []) → after ≡ lines-of line (map word (take (i + 1) xs))
+lines-more line word xs i x {before} {after} h is b a =
+    let step : map word (take (i + 1) xs) ≡ map word (take i xs) ++ word x ∷ [] = map-more word xs i x h ∙ ap (λ y. map word (take i xs) ++ word y ∷ []) (sym is) in
+    a ∙ (ap (λ t. t ++ (line (word x) ++ 10 ∷ [])) b ∙ (joined-more (λ w. line w ++ 10 ∷ []) [] (map word (take i xs)) (word x) ∙ ap (lines-of line) (sym step)))
+
+pub lines-all : {X : Type 0} (line : List ℕ → List ℕ) (word : X → List ℕ) (xs : List X) (i : ℕ) {after : List ℕ} → length xs ≡ i → after ≡ lines-of line (map word (take i xs)) → after ≡ lines-of line (map word xs)
+lines-all line word xs i h e = e ∙ ap (λ t. lines-of line (map word t)) (take-all i xs (omega arith))

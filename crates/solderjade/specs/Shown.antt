@@ -1,10 +1,11 @@
 -- What the program prints of a conversion's answer.
 use mathlib.Core.Bool.{cond}
-use mathlib.Core.List.{List, [], _∷_}
+use mathlib.Core.List.{List, [], _∷_, _++_}
 use Prim.Native.Nat.{ℕ, _+_, _/_, _%_}
 use lib.Chars.{codes}
 use lib.Dec.{ltb}
 use lib.IntN.{ℤ}
+use Rattle.std.specs.Joined.{joined}
 use Rattle.std.specs.Written.{signed}
 use Rattle.std.specs.declared.option.Option.{Option}
 use Rattle.std.specs.declared.option.Option.the-variants.{Some, None}
@@ -27,3 +28,7 @@ shown-duration None = codes "text"
 abbrev pub shown-bytes : Option (List ℕ) → List ℕ
 shown-bytes (Some s) = hexed s
 shown-bytes None = codes "text"
+
+-- the line of each word, with its end
+abbrev pub lines-of : (List ℕ → List ℕ) → List (List ℕ) → List ℕ
+lines-of line words = joined (λ w. line w ++ 10 ∷ []) words

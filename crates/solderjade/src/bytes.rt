@@ -7,30 +7,26 @@ ghost use mathlib.Core.Path.{_≡_};
 use super::failure::Failure;
 use super::failure::FailureFromAlloc;
 use super::hex::hex;
-use super::lines::push_line;
+use super::lines::Shows;
 use base64::decode;
 use base64::decoded_len;
 use std::alloc::Global;
 
-pub fn print_bytes(heap: Global, texts: &[String]) -> Result<Vec<u8>, Failure> {
-    let mut lines = Vec::new(heap);
-    for text in texts {
-        let line = shown(heap, text.as_bytes())?;
-        push_line(&mut lines, &line)?;
-    }
-    Ok(lines)
-}
+// What the verb prints for a word.
+pub struct Bytes;
 
-fn shown(heap: Global, text: &[u8]) -> Result<Vec<u8>, Failure>
-    ensures { λ r. ⌜ made r (λ v. vec-items v ≡ shown-bytes (decoded (now (text .entry)))) ⌝ }
-{
-    let Some(len) = decoded_len(text) else {
-        return Ok(Vec::from_slice(heap, b"text")?);
-    };
-    let mut room = vec![in heap; 0u8; len]?;
-    let Ok(_) = decode(text, &mut room) else {
-        return Err(Failure::Memory);
-    };
-    let line = hex(heap, &room)?;
-    Ok(line)
+pub impl Shows for Bytes as BytesShows {
+    ghost line = { λ _ s. shown-bytes (decoded s) };
+
+    fn show(&self, heap: Global, word: &[u8]) -> Result<Vec<u8>, Failure> {
+        let Some(len) = decoded_len(word) else {
+            return Ok(Vec::from_slice(heap, b"text")?);
+        };
+        let mut room = vec![in heap; 0u8; len]?;
+        let Ok(_) = decode(word, &mut room) else {
+            return Err(Failure::Memory);
+        };
+        let line = hex(heap, &room)?;
+        Ok(line)
+    }
 }

@@ -6,27 +6,23 @@ ghost use Rattle.std.specs.Vec.{made};
 ghost use mathlib.Core.Path.{_≡_};
 use super::failure::Failure;
 use super::failure::FailureFromAlloc;
-use super::lines::push_line;
+use super::lines::Shows;
 use durations::parse_go_duration;
 use std::alloc::Global;
 
-pub fn print_durations(heap: Global, texts: &[String]) -> Result<Vec<u8>, Failure> {
-    let mut lines = Vec::new(heap);
-    for text in texts {
-        let line = shown(heap, text.as_bytes())?;
-        push_line(&mut lines, &line)?;
-    }
-    Ok(lines)
-}
+// What the verb prints for a word.
+pub struct Durations;
 
-fn shown(heap: Global, text: &[u8]) -> Result<Vec<u8>, Failure>
-    ensures { λ r. ⌜ made r (λ v. vec-items v ≡ shown-duration (duration (now (text .entry)))) ⌝ }
-{
-    match parse_go_duration(text) {
-        Some(nanoseconds) => {
-            let number = format!(heap, "{nanoseconds}")?;
-            Ok(Vec::from_slice(heap, number.as_bytes())?)
+pub impl Shows for Durations as DurationsShows {
+    ghost line = { λ _ s. shown-duration (duration s) };
+
+    fn show(&self, heap: Global, word: &[u8]) -> Result<Vec<u8>, Failure> {
+        match parse_go_duration(word) {
+            Some(nanoseconds) => {
+                let number = format!(heap, "{nanoseconds}")?;
+                Ok(Vec::from_slice(heap, number.as_bytes())?)
+            }
+            None => Ok(Vec::from_slice(heap, b"text")?),
         }
-        None => Ok(Vec::from_slice(heap, b"text")?),
     }
 }

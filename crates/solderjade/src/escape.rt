@@ -5,29 +5,25 @@ ghost use Rattle.std.specs.Vec.{made};
 ghost use mathlib.Core.Path.{_≡_};
 use super::failure::Failure;
 use super::failure::FailureFromAlloc;
-use super::lines::push_line;
+use super::lines::Shows;
 use escaping::escape_field_name;
 use escaping::escaped_len;
 use std::alloc::Global;
 
-pub fn print_escapes(heap: Global, names: &[String]) -> Result<Vec<u8>, Failure> {
-    let mut lines = Vec::new(heap);
-    for name in names {
-        let line = shown(heap, name.as_bytes())?;
-        push_line(&mut lines, &line)?;
-    }
-    Ok(lines)
-}
+// What the verb prints for a word.
+pub struct Escapes;
 
-fn shown(heap: Global, name: &[u8]) -> Result<Vec<u8>, Failure>
-    ensures { λ r. ⌜ made r (λ v. vec-items v ≡ escape (now (name .entry))) ⌝ }
-{
-    let Some(len) = escaped_len(name) else {
-        return Err(Failure::Memory);
-    };
-    let mut line = vec![in heap; 0u8; len]?;
-    let Ok(_) = escape_field_name(name, &mut line) else {
-        return Err(Failure::Memory);
-    };
-    Ok(line)
+pub impl Shows for Escapes as EscapesShows {
+    ghost line = { λ _ s. escape s };
+
+    fn show(&self, heap: Global, word: &[u8]) -> Result<Vec<u8>, Failure> {
+        let Some(len) = escaped_len(word) else {
+            return Err(Failure::Memory);
+        };
+        let mut line = vec![in heap; 0u8; len]?;
+        let Ok(_) = escape_field_name(word, &mut line) else {
+            return Err(Failure::Memory);
+        };
+        Ok(line)
+    }
 }

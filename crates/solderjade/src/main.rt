@@ -7,6 +7,12 @@ mod hex;
 mod lines;
 mod usage;
 
+use bytes::Bytes;
+use bytes::BytesShows;
+use duration::Durations;
+use duration::DurationsShows;
+use escape::Escapes;
+use escape::EscapesShows;
 use failure::Failure;
 use failure::FailureFromAlloc;
 use failure::FailureFromIo;
@@ -20,9 +26,9 @@ fn answer(heap: Global, words: &[String]) -> Result<Vec<u8>, Failure> {
         return Err(Failure::Usage);
     };
     match verb.as_str() {
-        "bytes" => bytes::print_bytes(heap, rest),
-        "duration" => duration::print_durations(heap, rest),
-        "escape" => escape::print_escapes(heap, rest),
+        "bytes" => lines::print_all(heap, &Bytes, rest),
+        "duration" => lines::print_all(heap, &Durations, rest),
+        "escape" => lines::print_all(heap, &Escapes, rest),
         "help" => usage::help(heap),
         _ => Err(Failure::Usage),
     }

@@ -3,11 +3,11 @@ use native.Mathlib.Omega.{arith}
 use lib.ListN.{length}
 use Rattle.escaping.specs.Escape.{escape}
 use Rattle.solderjade.proofs.Showing.{filled-whole, some-counted}
-use Rattle.solderjade.proofs.escape.shown.Needs as need
+use Rattle.solderjade.proofs.escape.EscapesShows.show.Needs as need
 
 pub returns : need.returns
 returns c =
-    let s = escape (c .args .name .now) in
+    let s = escape (c .args .word .now) in
     let n = c .in-Continue-line .line .len in
     let asked : n ≡ c .in-Some .len = c .in-Continue-line .ensures tt .made .1 in
     let long : c .in-Some .len ≡ length s = some-counted (length s) (c .in-Some .len) (c .in-Some .ensures tt) in

@@ -1,0 +1,5 @@
+pub mod Zeros
+pub mod Value
+pub mod Meaning
+pub mod Stored
+pub mod Laws

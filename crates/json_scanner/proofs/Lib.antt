@@ -1,0 +1,15 @@
+pub mod Cases
+pub mod Stacks
+pub mod Roomy
+pub mod Turns
+pub mod Strings
+pub mod Numbers
+pub mod Shape
+pub mod Sound
+pub mod Goes
+pub mod NumberRuns
+pub mod Complete
+pub mod Bridge
+pub mod Places
+pub mod Firsts
+pub mod Answered

@@ -1,0 +1,4 @@
+pub mod Accepting
+pub mod Adding
+pub mod Compilings
+pub mod Searches

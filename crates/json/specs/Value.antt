@@ -14,9 +14,11 @@ mutual
     text : List ℕ → Value
     list : Items → Value
     map : Members → Value
+
   pub data Items : Type 0 where
     no-item : Items
     item : Value → Items → Items
+
   pub data Members : Type 0 where
     no-member : Members
     member : List ℕ → Value → Members → Members

@@ -12,7 +12,14 @@ use order::compare_bytes;
 use std::cmp::Ordering;
 
 // The number of the member of `span` that has the key, by halves: members stand in ascending order of their keys.
-pub fn find_member(schema: &Store, record: &Store, older: &Store, table: &Table, span: Span, key: &[u8]) -> Option<usize>
+pub fn find_member(
+    schema: &Store,
+    record: &Store,
+    older: &Store,
+    table: &Table,
+    span: Span,
+    key: &[u8],
+) -> Option<usize>
     ensures { λ r. ⌜ Finds (texts-of (now (schema .entry)) (now («record» .entry)) (now (older .entry))) (listed (now (table .entry))) span (now (key .entry)) r ⌝ }
 {
     let entries = table.as_slice();

@@ -177,6 +177,7 @@ name-text k l = subst (Name k) (name-group (joined escaped k)) (Name.name Blank.
 
 mutual
   unfolding compact quoted
+
   value-text : (v : Value) → Writable v → g.Value (tree-of v) (compact v)
   value-text null h = g.Value.null-word
   value-text (bool true) h = g.Value.true-word

@@ -67,6 +67,7 @@ take-of-take m n l = ⊎-elim shorter longer (cases-lt m n)
         let le : m ≤ n = omega arith in
         let k : min m n ≡ m = omega arith in
         take-take m n l le ∙ ap (λ z. take z l) (sym k)
+
     longer : n ≤ m → take m (take n l) ≡ take (min m n) l
     longer le =
         let k : min m n ≡ n = omega arith in
@@ -82,6 +83,7 @@ children-are rows sp k h = ⊎-elim inside outside (cases-lt (sp .first) k)
         let n : sp .first + (k - sp .first) ≡ k = omega arith in
         let m : min (sp .count) (k - sp .first) ≡ min (sp .first + sp .count) k - sp .first = omega arith in
         ap (λ z. take (sp .count) (drop (sp .first) (take z rows))) (sym n) ∙ (ap (take (sp .count)) (drop-take (sp .first) (k - sp .first) rows) ∙ (take-of-take (sp .count) (k - sp .first) (drop (sp .first) rows) ∙ (ap (λ z. take z (drop (sp .first) rows)) m ∙ ap (λ z. take (min (sp .first + sp .count) k - z) (drop z rows)) (sym f))))
+
     outside : k ≤ sp .first → children (take k rows) sp ≡ rows-between rows (min (sp .first) k) (min (sp .first + sp .count) k)
     outside le =
         let none : drop (sp .first) (take k rows) ≡ [] = drop-of-length-le (take k rows) (omega (arith, length-take-le k rows h)) in

@@ -65,6 +65,7 @@ comma-is rows first k h g = by (ltb first k) refl
   where
     n : length (rows-between rows first k) ≡ k - first
     n = length-between rows first k g
+
     by : (b : Bool) → ltb first k ≡ b → comma (rows-between rows first k) ≡ cond b (44 ∷ []) []
     by true e = comma-some (rows-between rows first k) (omega (arith, n, ltb-true first k e))
     by false e = comma-none (rows-between rows first k) (omega (arith, n, ltb-false first k e))

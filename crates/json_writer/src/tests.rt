@@ -11,11 +11,19 @@ use json::table::Table;
 use std::test::*;
 
 fn part(start: usize, len: usize) -> Part {
-    Part { source: Source::Record, start, len }
+    Part {
+        source: Source::Record,
+        start,
+        len,
+    }
 }
 
 fn entry(key: Part, cell: Cell) -> Entry {
-    Entry { key, place: 0, cell }
+    Entry {
+        key,
+        place: 0,
+        cell,
+    }
 }
 
 // A map of a text with every kind of escape, and a list of numbers, literals and empty containers.
@@ -40,11 +48,25 @@ fn compact_text(rt: LibcRuntime) -> Result<(), Fail> {
     for cell in cells.iter().copied() {
         check(add_entry(&mut table, entry(none, cell)).is_ok())?;
     }
-    check(add_entry(&mut table, entry(none, Cell::List(Span { first: 0, count: 7 }))).is_ok())?;
+    check(add_entry(
+        &mut table,
+        entry(none, Cell::List(Span { first: 0, count: 7 })),
+    ).is_ok())?;
     check(add_entry(&mut table, entry(part(0, 1), Cell::Text(part(1, 11)))).is_ok())?;
-    check(add_entry(&mut table, entry(none, Cell::Map(Span { first: 7, count: 2 }))).is_ok())?;
-    let view = View { schema: &schema, record: &record, older: &older, entries: table.as_slice() };
+    check(add_entry(
+        &mut table,
+        entry(none, Cell::Map(Span { first: 7, count: 2 })),
+    ).is_ok())?;
+    let view = View {
+        schema: &schema,
+        record: &record,
+        older: &older,
+        entries: table.as_slice(),
+    };
     let mut text = Vec::new(heap);
     push_compact(heap, view, 9, &mut text)?;
-    check_eq(text.as_slice(), b"{\"\":[-9223372036854775808,18446744073709551615,true,false,null,[],{}],\"k\":\"\\\"\\\\\\b\\f\\n\\r\\t\\u001f/\xc3\xa4\"}")
+    check_eq(
+        text.as_slice(),
+        b"{\"\":[-9223372036854775808,18446744073709551615,true,false,null,[],{}],\"k\":\"\\\"\\\\\\b\\f\\n\\r\\t\\u001f/\xc3\xa4\"}",
+    )
 }

@@ -91,17 +91,25 @@ fn push_key(view: View<'_>, key: Part, keyed: bool, out: &mut Vec<u8>) -> Result
 fn cell_at(entries: &[Entry], k: usize) -> Option<Cell>
     ensures { λ r. ⌜ BySome r (length (now (entries .entry)) ≤ k) (λ x. (k < length (now (entries .entry))) × (getD (now (entries .entry)) k no-entry .cell ≡ x)) ⌝ }
 {
-    if k < entries.len() { Some(entries[k].cell) } else { None }
+    if k < entries.len() {
+        Some(entries[k].cell)
+    } else {
+        None
+    }
 }
 
 // What is written is JSON.
 pub fn writing_stands()
     ensures { λ _. ⌜ Writes-json ⌝ }
-{
-}
+{}
 
 // Appends the value with the number k. The nesting of the value bounds the recursion.
-pub fn push_compact(heap: Global, view: View<'_>, k: usize, out: &mut Vec<u8>) -> Result<(), AllocError>
+pub fn push_compact(
+    heap: Global,
+    view: View<'_>,
+    k: usize,
+    out: &mut Vec<u8>,
+) -> Result<(), AllocError>
     ensures { λ r. ⌜ made r (λ _. vec-items (now (out .exit)) ≡ vec-items (now (out .entry)) ++ compact (value-at (texts-of (now (view .entry .schema)) (now (view .entry .«record»)) (now (view .entry .older))) (now (view .entry .entries)) k)) ⌝ }
 {
     let Some(cell) = cell_at(view.entries, k) else {
@@ -129,7 +137,14 @@ pub fn push_compact(heap: Global, view: View<'_>, k: usize, out: &mut Vec<u8>) -
 }
 
 // The children of the entry k: they stand below it.
-fn push_children(heap: Global, view: View<'_>, span: Span, k: usize, keyed: bool, out: &mut Vec<u8>) -> Result<(), AllocError>
+fn push_children(
+    heap: Global,
+    view: View<'_>,
+    span: Span,
+    k: usize,
+    keyed: bool,
+    out: &mut Vec<u8>,
+) -> Result<(), AllocError>
     requires { ⌜ k ≤ length (now (view .entries)) ⌝ }
     ensures { λ r. ⌜ made r (λ _. vec-items (now (out .exit)) ≡ vec-items (now (out .entry)) ++ run-text keyed (rows-between (rows-of (texts-of (now (view .entry .schema)) (now (view .entry .«record»)) (now (view .entry .older))) (now (view .entry .entries))) (min (span .first) k) (min (span .first + span .count) k))) ⌝ }
 {

@@ -60,13 +60,13 @@ returns c =
     let f = c .min-first .ensures in
     let m = c .min .ensures in
     let none : Ascending texts entries sp → (k : ℕ) → Within entries sp k → key-at texts entries k ≡ c .args .key .now → ⊥ =
-        λ a k w e.
-        let rises = λ (p q : ℕ) (l : first ≤ p) (lt : p < q) (h : q < end).
-            let wp : Within entries sp p = (omega (arith, i .3), omega (arith, i .3), omega (arith, i .3)) in
-            let wq : Within entries sp q = (omega (arith, i .3), omega (arith, i .3), omega (arith, i .3)) in
-            a p q wp wq lt in
-        elim (cases-lt k (c .loop-low .low)) [
-          inl l ↦ i .4 rises k (omega (arith, w .0, w .2)) l e
-        | inr l ↦ i .5 rises k (omega (arith, c .loop-low-test .left)) (omega (arith, w .0, w .1, w .2)) e
-        ] in
+    λ a k w e.
+    let rises = λ (p q : ℕ) (l : first ≤ p) (lt : p < q) (h : q < end).
+    let wp : Within entries sp p = (omega (arith, i .3), omega (arith, i .3), omega (arith, i .3)) in
+    let wq : Within entries sp q = (omega (arith, i .3), omega (arith, i .3), omega (arith, i .3)) in
+    a p q wp wq lt in
+    elim (cases-lt k (c .loop-low .low)) [
+      | inl l ↦ i .4 rises k (omega (arith, w .0, w .2)) l e
+      | inr l ↦ i .5 rises k (omega (arith, c .loop-low-test .left)) (omega (arith, w .0, w .1, w .2)) e
+    ] in
     subst (λ (es : List Entry). Ascending texts es sp → (k : ℕ) → Within es sp k → key-at texts es k ≡ c .args .key .now → ⊥) (c .as-slice-entries .ensures .value) none

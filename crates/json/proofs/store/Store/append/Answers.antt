@@ -36,7 +36,6 @@ module _ (s : Store) (more xs ys : List ℕ) (fit : s .len + length more ≤ 655
   written-is : refilled (s .bytes) (pasted (s .len) xs ys (s .len + length more - s .len)) .items ≡ take (s .len) (s .bytes .items) ++ (more ++ drop (s .len + length more) (s .bytes .items))
   written-is = rewritten (s .bytes) (pasted (s .len) xs ys (s .len + length more - s .len)) size ∙ is
 
-
 pub ghost-self : need.ghost-self
 ghost-self c =
     let s = c .args .self .now in

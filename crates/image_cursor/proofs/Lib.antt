@@ -1,0 +1,12 @@
+pub mod Checks
+pub mod CursorLaws
+pub mod Fronts
+pub mod Images
+pub mod Keys
+pub mod Octets
+pub mod Parts
+pub mod Positions
+pub mod Scoping
+pub mod Turns
+pub mod Walks
+pub mod Wholes

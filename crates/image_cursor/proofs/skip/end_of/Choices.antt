@@ -1,0 +1,11 @@
+use Prim.Native.Nat.{_+_, _-_, _≤_}
+use lib.ListN.{drop, length}
+use mathlib.Core.Path.{_≡_}
+use Rattle.image_cursor.specs.Walking.{any, past, skipped}
+use Rattle.image_cursor.proofs.skip.end_of.Given as given
+
+abbrev pub Inv-loop-left : given.InvT-loop-left
+Inv-loop-left l = (l .place ≤ length (l .bytes)) × (l .left ≤ length (l .bytes) + 1) × (skipped (drop (l .at) (l .bytes)) ≡ past any (l .left) (drop (l .place) (l .bytes)))
+
+abbrev pub μ-loop-left : given.MeasureT-loop-left
+μ-loop-left l = length (l .bytes) - l .place

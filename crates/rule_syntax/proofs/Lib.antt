@@ -1,0 +1,14 @@
+pub mod Options
+pub mod Words
+pub mod Names
+pub mod Numbers
+pub mod Operands
+pub mod Readers
+pub mod Rules
+pub mod Told
+pub mod FirstNames
+pub mod Texts
+pub mod Complete
+pub mod Sound
+pub mod Unique
+pub mod Law

@@ -5,12 +5,14 @@ use Prim.Native.Nat.{ℕ, _+_, _<_}
 use native.Mathlib.Omega.{arith}
 use lib.ListN.{length, getD, drop}
 use Rattle.std.proofs.shelf.Lists.{at-drop-more, at-drop-all}
+use Rattle.std.specs.declared.option.Option.{Option}
 use Rattle.std.specs.declared.result.Result.{Result}
 use Rattle.std.specs.declared.result.Result.the-variants.{Ok, Err}
 use Rattle.json_scanner.specs.declared.modes.Fault.{Fault}
+use Rattle.json_scanner.specs.declared.modes.Numeral.{Numeral}
 use Rattle.json_scanner.specs.declared.modes.Step.{Step}
 use Rattle.json_scanner.specs.Bytes.{then}
-use Rattle.json_scanner.specs.Machine.{Control, turned, left-with, scan, finish}
+use Rattle.json_scanner.specs.Machine.{Control, turned, left-with, scan, finish, forgotten}
 
 first : {X Y : Type 0} (x y : X × Y) → x ≡ y → x .0 ≡ y .0
 first {X} {Y} x y e = ap (λ (z : X × Y). z .0) e
@@ -37,5 +39,9 @@ module _ (s : List ℕ) (i : ℕ) (c d : Control) (lt : i < length s) where
   pub scan-stop : (f : Fault) → (d, Err f) ≡ left-with c (turned i c (getD s i 0)) → scan c i (drop i s) ≡ Err f
   scan-stop f e = at-drop-more (scan c i) s i 0 lt ∙ ap (λ r. then r (λ y. scan (y .0) (i + 1) (drop (i + 1) s))) (left-err c d f (turned i c (getD s i 0)) e)
 
-pub scan-all : (s : List ℕ) (i : ℕ) (c : Control) → i ≡ length s → scan c i (drop i s) ≡ finish (length s) c
+scan-all : (s : List ℕ) (i : ℕ) (c : Control) → i ≡ length s → scan c i (drop i s) ≡ finish (length s) c
 scan-all s i c e = at-drop-all (scan c i) s i (omega arith) ∙ ap (λ n. finish n c) e
+
+-- the answer at the end, where x is what the whole text answers
+pub scan-ended : (s : List ℕ) (i : ℕ) (c : Control) (x r : Result (Option Numeral) Fault) → x ≡ scan c i (drop i s) → i ≡ length s → r ≡ finish (length s) c → forgotten r ≡ forgotten x
+scan-ended s i c x r inv e h = ap forgotten (h ∙ sym (inv ∙ scan-all s i c e))

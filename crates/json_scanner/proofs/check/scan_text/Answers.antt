@@ -1,9 +1,10 @@
 use mathlib.Core.Path.{sym, ap, _∙_}
 use native.Mathlib.Omega.{arith}
 use Rattle.std.proofs.shelf.Results.{err-from-errBy}
-use Rattle.json_scanner.specs.Machine.{forgotten}
+use Rattle.std.specs.declared.result.Result.the-variants.{Err}
+use Rattle.json_scanner.specs.Machine.{forgotten, fresh, scan}
 use Rattle.json_scanner.specs.Holds.{held}
-use Rattle.json_scanner.proofs.Turns.{scan-next, scan-stop, scan-all}
+use Rattle.json_scanner.proofs.Turns.{scan-next, scan-stop, scan-ended}
 use Rattle.json_scanner.proofs.check.scan_text.Needs as need
 
 pub returns-in-Break-step : need.returns-in-Break-step
@@ -17,7 +18,7 @@ loop-i-again c = c .loop-i .inv ∙ scan-next (c .args .text .now) (c .loop-i .i
 pub returns-in-Break-finish : need.returns-in-Break-finish
 returns-in-Break-finish c =
     let p = err-from-errBy (c .from-residual-in-Break-finish .result) (c .from-residual-in-Break-finish .ensures .1) in
-    rw (p .1, p .2) (ap forgotten (c .in-Break-finish .ensures tt ∙ sym (c .loop-i .inv ∙ scan-all (c .args .text .now) (c .loop-i .i) (held (c .loop-i .scanner)) (omega arith))))
+    rw (p .1, p .2) (scan-ended (c .args .text .now) (c .loop-i .i) (held (c .loop-i .scanner)) (scan fresh 0 (c .args .text .now)) (Err (c .in-Break-finish .field-0 .0)) (c .loop-i .inv) (omega arith) (c .in-Break-finish .ensures tt))
 
 pub returns : need.returns
-returns c = ap forgotten (c .in-Continue-finish .ensures tt ∙ sym (c .loop-i .inv ∙ scan-all (c .args .text .now) (c .loop-i .i) (held (c .loop-i .scanner)) (omega arith)))
+returns c = scan-ended (c .args .text .now) (c .loop-i .i) (held (c .loop-i .scanner)) (scan fresh 0 (c .args .text .now)) _ (c .loop-i .inv) (omega arith) (c .in-Continue-finish .ensures tt)

@@ -1,0 +1,10 @@
+pub mod Sifts
+pub mod Builds
+pub mod Lasting
+pub mod Frames
+pub mod Turning
+pub mod Members
+pub mod Cores
+pub mod Holding
+pub mod Running
+pub mod Whole

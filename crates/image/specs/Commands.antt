@@ -8,6 +8,7 @@ use Rattle.image.specs.declared.command.Command.the-variants.{Null, False, Tru
 use Rattle.std.specs.declared.option.Option.{Option}
 use Rattle.std.specs.declared.option.Option.the-variants.{Some, None}
 
+-- the byte of a command
 abbrev pub code : Command → ℕ
 code Null = 0x00
 code False = 0x01
@@ -24,9 +25,11 @@ code Present = 0x0D
 code Own = 0x10
 code Old = 0x11
 
+-- all commands
 abbrev pub commands : List Command
 commands = Null ∷ False ∷ True ∷ Int ∷ Uint ∷ Empty ∷ Text ∷ Bytes ∷ Duration ∷ ListOf ∷ Map ∷ Present ∷ Own ∷ Old ∷ []
 
+-- the first of these commands whose byte is b
 abbrev pub coded : ℕ → List Command → Option Command
 coded b [] = None
 coded b (c ∷ cs) = cond (eqb (code c) b) (Some c) (coded b cs)

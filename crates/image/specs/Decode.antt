@@ -97,6 +97,7 @@ first zero vs = no-items
 first (suc n) no-items = no-items
 first (suc n) (item v vs) = item v (first n vs)
 
+-- the items behind the first n
 unfoldable pub later : ℕ → Items → Items
 later zero vs = vs
 later (suc n) no-items = no-items
@@ -117,6 +118,7 @@ scalar-text (text s) = Some s
 scalar-text (bytes s) = None
 scalar-text (duration z) = None
 
+-- the bytes of a value that is a text
 abbrev pub text-of : Typed → Option (List ℕ)
 text-of (scalar s) = scalar-text s
 text-of (list vs) = None
@@ -144,6 +146,7 @@ pub record Run : Type 0 where
   pub values : Items
   pub rest : List ℕ
 
+-- a run of these values before these bytes
 abbrev pub running : List ℕ → Items → Run
 running s vs = record { values = vs; rest = s }
 
@@ -158,6 +161,7 @@ pub record Decoded : Type 0 where
   pub value : Typed
   pub rest : List ℕ
 
+-- the first value of a run
 abbrev pub only : List ℕ → Items → Option Decoded
 only s no-items = None
 only s (item v vs) = Some (record { value = v; rest = s })
@@ -187,6 +191,7 @@ abbrev pub decoded-old : List ℕ → Option OldSelf
 decoded-old [] = Some absent
 decoded-old (b ∷ s) = cond (eqb b 0x11) (decoded-optional s) None
 
+-- a scope of self and oldSelf
 abbrev pub scope : Typed → OldSelf → Scope
 scope v o = record { self = v; old = o }
 
@@ -195,6 +200,7 @@ abbrev pub octets : List ℕ → Bool
 octets [] = true
 octets (b ∷ s) = ltb b 256 && octets s
 
+-- the scope that bytes below 256 are
 abbrev pub scope-of : List ℕ → Option Scope
 scope-of [] = None
 scope-of (b ∷ s) = cond (eqb b 0x10) (then (decoded s) (λ d. mapped (scope (d .value)) (decoded-old (d .rest)))) None

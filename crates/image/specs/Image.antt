@@ -41,5 +41,6 @@ old-image (plain v) = 0x11 ∷ image v
 old-image empty = 0x11 ∷ (0x05 ∷ [])
 old-image (some v) = 0x11 ∷ (0x0D ∷ image v)
 
+-- self behind its command, and then oldSelf
 abbrev pub scope-image : Scope → List ℕ
 scope-image s = 0x10 ∷ (image (s .self) ++ old-image (s .old))

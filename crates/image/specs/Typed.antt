@@ -36,10 +36,12 @@ mutual
     no-members : Members
     member : List ℕ → Typed → Members → Members
 
+-- how many values a list has
 abbrev pub items-count : Items → ℕ
 items-count no-items = 0
 items-count (item v vs) = items-count vs + 1
 
+-- how many members a map has
 abbrev pub members-count : Members → ℕ
 members-count no-members = 0
 members-count (member k v ms) = members-count ms + 1
@@ -100,11 +102,13 @@ pub record Scope : Type 0 where
   pub self : Typed
   pub old : OldSelf
 
+-- the value of oldSelf, if there is one, has an image
 abbrev pub ProperOld : OldSelf → Type 0
 ProperOld absent = Unit {0}
 ProperOld (plain v) = Proper v
 ProperOld empty = Unit {0}
 ProperOld (some v) = Proper v
 
+-- both parts of a scope have an image
 abbrev pub ProperScope : Scope → Type 0
 ProperScope s = Proper (s .self) × ProperOld (s .old)

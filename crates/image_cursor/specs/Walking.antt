@@ -16,6 +16,7 @@ walk ok zero turns s = Some s
 walk ok (suc k) zero s = None
 walk ok (suc k) (suc turns) s = then (seen s) (λ c. cond (ok (c .head) (c .rest)) (walk ok (parts (c .head) + k) turns (c .rest)) None)
 
+-- the same with as many turns as there are bytes, which is enough
 unfoldable pub past : (Head → List ℕ → Bool) → ℕ → List ℕ → Option (List ℕ)
 past ok k s = walk ok k (length s) s
 
@@ -38,6 +39,7 @@ pub record Keyed : Type 0 where
   pub key : List ℕ
   pub rest : List ℕ
 
+-- the key at the front, if a text's command stands there
 abbrev pub key-seen : List ℕ → Option Keyed
 key-seen s = then (seen s) (λ c. then (head-text (c .head)) (λ k. Some (record { key = k; rest = c .rest })))
 
@@ -46,6 +48,7 @@ unfoldable pub looked-up : ℕ → List ℕ → List ℕ → Option (List ℕ)
 looked-up zero key s = None
 looked-up (suc n) key s = then (key-seen s) (λ k. cond (isEq (compare-bytes (k .key) key)) (Some (k .rest)) (then (skipped (k .rest)) (looked-up n key)))
 
+-- the same behind a command, if it is a map's
 abbrev pub looked-in : List ℕ → Seen → Option (List ℕ)
 looked-in key c = in-head (c .head) (c .rest) where
   in-head : Head → List ℕ → Option (List ℕ)

@@ -37,6 +37,7 @@ pub(crate) struct Reading<'a> {
     pub width: usize,
 }
 
+// What was read, in `width` bytes.
 fn took(head: Head<'_>, width: usize) -> Reading<'_>
     ensures { λ r. ⌜ r ≡ record { head = head .entry; width = width } ⌝ }
 {

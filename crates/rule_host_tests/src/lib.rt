@@ -1,0 +1,4 @@
+// Examples of rule hosts, and a layer over any host.
+pub mod counting;
+#[cfg(test)]
+mod tests;

@@ -20,18 +20,18 @@ overflow-add-sum c =
 pub returns-then-sum-ge-LIMIT : goal.returns-then-sum-ge-LIMIT
 returns-then-sum-ge-LIMIT c =
     let some : 0 < length c.loop-rest.rest.now = grind (arith, nat_tests) in
-    left_over _ c.loop-rest.total (c.from.result + c.in-ok-nanoseconds.nanoseconds) c.loop-rest.rest.now (c.in-ok-nanoseconds.nanoseconds, c.in-ok-nanoseconds.tail.now)
-    c.loop-rest.invariant.1 some (sym c.in-ok-nanoseconds.ensures) (omega arith) (omega arith)
+    left_over _ c.loop-rest.total (c.from.result + c.in_ok-nanoseconds.nanoseconds) c.loop-rest.rest.now (c.in_ok-nanoseconds.nanoseconds, c.in_ok-nanoseconds.tail.now)
+    c.loop-rest.invariant.1 some (sym c.in_ok-nanoseconds.ensures) (omega arith) (omega arith)
 
 pub loop-rest-smaller : goal.loop-rest-smaller
-loop-rest-smaller c = (amount_shrinks c.loop-rest.rest.now (c.in-ok-nanoseconds.nanoseconds, c.in-ok-nanoseconds.tail.now) (sym c.in-ok-nanoseconds.ensures)).left
+loop-rest-smaller c = (amount_shrinks c.loop-rest.rest.now (c.in_ok-nanoseconds.nanoseconds, c.in_ok-nanoseconds.tail.now) (sym c.in_ok-nanoseconds.ensures)).left
 
 pub loop-rest-preserved : goal.loop-rest-preserved
 loop-rest-preserved c =
     let some : 0 < length c.loop-rest.rest.now = grind (arith, nat_tests) in (
       omega arith,
-      left_next _ c.loop-rest.total _ c.loop-rest.rest.now (c.in-ok-nanoseconds.nanoseconds, c.in-ok-nanoseconds.tail.now)
-          c.loop-rest.invariant.1 some (sym c.in-ok-nanoseconds.ensures) (omega arith) (omega arith),
+      left_next _ c.loop-rest.total _ c.loop-rest.rest.now (c.in_ok-nanoseconds.nanoseconds, c.in_ok-nanoseconds.tail.now)
+          c.loop-rest.invariant.1 some (sym c.in_ok-nanoseconds.ensures) (omega arith) (omega arith),
     )
 
 pub returns : goal.returns

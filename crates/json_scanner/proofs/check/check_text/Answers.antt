@@ -6,6 +6,6 @@ use Rattle.json_scanner.proofs.check.check_text.Goals as goal
 pub returns : goal.returns
 returns c =
     record {
-      reads = subst (Reads c.args.text.now) (sym c.scan-text.ensures) (reads c.args.text.now);
-      alone = subst (Alone c.args.text.now) (sym c.scan-text.ensures) (alone c.args.text.now);
+      reads = subst (Reads c.args.text.now) (sym c.scan_text.ensures) (reads c.args.text.now);
+      alone = subst (Alone c.args.text.now) (sym c.scan_text.ensures) (alone c.args.text.now);
     }

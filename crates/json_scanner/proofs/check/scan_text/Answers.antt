@@ -11,7 +11,7 @@ returns-in-err-step c =
     rw (p.1, p.2) (sym (ap forgotten (c.loop-i.invariant ∙ scan_stop c.args.text.now c.loop-i.i (held c.loop-i.scanner) (held c.step.new.self) c.loop-i-test.true _ c.in-err-step.ensures)))
 
 pub loop-i-preserved : goal.loop-i-preserved
-loop-i-preserved c = c.loop-i.invariant ∙ scan-next c.args.text.now c.loop-i.i (held c.loop-i.scanner) (held c.step.new.self) c.loop-i-test.true _ c.in-ok-step.ensures
+loop-i-preserved c = c.loop-i.invariant ∙ scan-next c.args.text.now c.loop-i.i (held c.loop-i.scanner) (held c.step.new.self) c.loop-i-test.true _ c.in_ok-step.ensures
 
 pub returns-in-err-finish : goal.returns-in-err-finish
 returns-in-err-finish c =
@@ -19,4 +19,4 @@ returns-in-err-finish c =
     rw (p.1, p.2) (scan-ended c.args.text.now c.loop-i.i (held c.loop-i.scanner) (scan fresh 0 c.args.text.now) (Err c.in-err-finish.field-0.0) c.loop-i.invariant (omega arith) c.in-err-finish.ensures)
 
 pub returns : goal.returns
-returns c = scan-ended c.args.text.now c.loop-i.i (held c.loop-i.scanner) (scan fresh 0 c.args.text.now) _ c.loop-i.invariant (omega arith) c.in-ok-finish.ensures
+returns c = scan-ended c.args.text.now c.loop-i.i (held c.loop-i.scanner) (scan fresh 0 c.args.text.now) _ c.loop-i.invariant (omega arith) c.in_ok-finish.ensures

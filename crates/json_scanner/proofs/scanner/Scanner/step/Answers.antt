@@ -5,8 +5,8 @@ use Rattle.json_scanner.proofs.scanner.Scanner.step.Goals as goal
 
 pub arrange-requires : goal.arrange-requires
 arrange-requires c =
-    subst (λ a. Room c.in-ok-mode.act a.depth) c.around-around.ensures (room_of c.around-around.result c.in-ok-ready.ready.mode c.args.place c.args.b _ _ c.in-ok-mode.ensures).0
+    subst (λ a. Room c.in_ok-mode.act a.depth) c.around-around.ensures (room_of c.around-around.result c.in_ok-ready.ready.mode c.args.place c.args.b _ _ c.in_ok-mode.ensures).0
 
 pub count-self-requires : goal.count-self-requires
 count-self-requires c =
-    subst (λ a. Counts c.in-ok-mode.act a.values) c.around-around.ensures (room_of c.around-around.result c.in-ok-ready.ready.mode c.args.place c.args.b _ _ c.in-ok-mode.ensures).1
+    subst (λ a. Counts c.in_ok-mode.act a.values) c.around-around.ensures (room_of c.around-around.result c.in_ok-ready.ready.mode c.args.place c.args.b _ _ c.in_ok-mode.ensures).1

@@ -9,15 +9,15 @@ pub loop-left-init : goal.loop-left-init
 loop-left-init c =
     (sym (ap (λ d. decimal c.args.n ++ d) (drop_of_length-le c.args.digits.now {i = 20} (omega arith)) ∙ append-nil (decimal c.args.n)), omega arith, omega arith, omega arith)
 
-pub overflow-sub-from : goal.overflow-sub-from
-overflow-sub-from c = room_some c.args.n c.loop-left.left c.loop-left.from c.loop-left.digits (omega arith) (omega arith) c.loop-left.invariant.3 c.loop-left.invariant.1 c.loop-left.invariant.0
+pub overflow_sub-from : goal.overflow_sub-from
+overflow_sub-from c = room_some c.args.n c.loop-left.left c.loop-left.from c.loop-left.digits (omega arith) (omega arith) c.loop-left.invariant.3 c.loop-left.invariant.1 c.loop-left.invariant.0
 
 pub loop-left-preserved : goal.loop-left-preserved
 loop-left-preserved c =
     (digit_more c.args.n c.loop-left.left c.loop-left.from c.loop-left.digits (omega arith) (omega arith) c.loop-left.invariant.3 c.loop-left.invariant.1 c.loop-left.invariant.0 (omega arith), omega arith, div_lower c.loop-left.left c.loop-left.invariant.2, simp length-set c.loop-left.invariant.3)
 
-pub overflow-sub-from-2 : goal.overflow-sub-from-2
-overflow-sub-from-2 c = room_some c.args.n c.loop-left.left c.loop-left.from c.loop-left.digits (omega arith) (omega arith) c.loop-left.invariant.3 c.loop-left.invariant.1 c.loop-left.invariant.0
+pub overflow_sub-from-2 : goal.overflow_sub-from-2
+overflow_sub-from-2 c = room_some c.args.n c.loop-left.left c.loop-left.from c.loop-left.digits (omega arith) (omega arith) c.loop-left.invariant.3 c.loop-left.invariant.1 c.loop-left.invariant.0
 
 pub returns : goal.returns
 returns c = record {

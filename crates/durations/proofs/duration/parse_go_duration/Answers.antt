@@ -4,15 +4,15 @@ use Rattle.durations.proofs.DurationSums.{magnitude-below, duration_none, durati
 use Rattle.durations.proofs.DurationLaw.{durations_read}
 use Rattle.durations.proofs.duration.parse_go_duration.Goals as goal
 
-pub returns-in-err-magnitude : goal.returns-in-err-magnitude
-returns-in-err-magnitude c =
+pub returns-in_err-magnitude : goal.returns-in_err-magnitude
+returns-in_err-magnitude c =
     record {
-      value = c.from-residual.ensures ∙ duration_none c.args.input.now c.split-sign-sign.result.0 c.split-sign-sign.result.1.now c.split-sign-sign.ensures (sym c.in-err-magnitude.ensures);
+      value = c.from_residual.ensures ∙ duration_none c.args.input.now c.split_sign-sign.result.0 c.split_sign-sign.result.1.now c.split_sign-sign.ensures (sym c.in_err-magnitude.ensures);
       law = durations_read;
     }
 
 pub signed-requires : goal.signed-requires
-signed-requires c = magnitude-below c.split-sign-sign.result.1.now c.in-ok-magnitude.magnitude (sym c.in-ok-magnitude.ensures)
+signed-requires c = magnitude-below c.split_sign-sign.result.1.now c.in_ok-magnitude.magnitude (sym c.in_ok-magnitude.ensures)
 
 pub returns : goal.returns
 returns c =
@@ -20,6 +20,6 @@ returns c =
     record {
       value =
           ap (λ z. Some z) (to_z-of_z w64 c.signed.result fits ∙ c.signed.ensures)
-          ∙ duration_some c.args.input.now c.split-sign-sign.result.0 c.split-sign-sign.result.1.now c.in-ok-magnitude.magnitude c.split-sign-sign.ensures (sym c.in-ok-magnitude.ensures);
+          ∙ duration_some c.args.input.now c.split_sign-sign.result.0 c.split_sign-sign.result.1.now c.in_ok-magnitude.magnitude c.split_sign-sign.ensures (sym c.in_ok-magnitude.ensures);
       law = durations_read;
     }

@@ -4,15 +4,15 @@ use Rattle.std.proofs.lemmas.Bool.Decides.{nat_tests}
 use Rattle.std.specs.Char.{is_ascii_digit}
 use Rattle.durations.proofs.DurationFigures.{ten_more, ten_at_most, figures_more, figures_end}
 use Rattle.durations.proofs.duration.read_figures.Goals as goal
-use Rattle.durations.proofs.duration.read_figures.Goals.{in_default, in-default·2, in-default·3}
+use Rattle.durations.proofs.duration.read_figures.Goals.{in_default, in_default-2, in_default-3}
 
-pub overflow-mul-read : goal.overflow-mul-read
-overflow-mul-read c =
+pub overflow_mul-read : goal.overflow_mul-read
+overflow_mul-read c =
     let h : c.loop-rest.read.value < 10 ^ 15 = ten_at_most _ _ 15 c.loop-rest.invariant.2 c.loop-rest.invariant.1 in
     search rules
 
-pub overflow-add-read : goal.overflow-add-read
-overflow-add-read c =
+pub overflow_add-read : goal.overflow_add-read
+overflow_add-read c =
     let h : c.loop-rest.read.value < 10 ^ 15 = ten_at_most _ _ 15 c.loop-rest.invariant.2 c.loop-rest.invariant.1 in
     search rules
 
@@ -26,5 +26,5 @@ loop-rest-preserved c =
 
 pub returns : goal.returns
 returns c =
-    let stop : 0 < length c.loop-rest.rest.now → is_ascii_digit (get_or c.loop-rest.rest.now 0 0) ≡ false = λ h. elim c.if-rest-lt1.branch [ in_default w ↦ grind (arith, nat_tests) | in-default·2 w ↦ grind (arith, nat_tests) | in-default·3 w ↦ grind (arith, nat_tests) ] in
+    let stop : 0 < length c.loop-rest.rest.now → is_ascii_digit (get_or c.loop-rest.rest.now 0 0) ≡ false = λ h. elim c.if-rest-lt1.branch [ in_default w ↦ grind (arith, nat_tests) | in_default-2 w ↦ grind (arith, nat_tests) | in_default-3 w ↦ grind (arith, nat_tests) ] in
     sym (c.loop-rest.invariant.0 ∙ figures_end _ _ stop)

@@ -4,8 +4,8 @@ use Rattle.durations.proofs.DurationSums.{magnitude_sum}
 use Rattle.durations.proofs.duration.read_magnitude.Goals as goal
 use Rattle.durations.proofs.duration.read_magnitude.Goals.{in-default-via-then-text-lt2+in-default·, in-default-via-else-text-lt2}
 
-pub returns-in-default : goal.returns-in-default
-returns-in-default c =
+pub returns-in_default : goal.returns-in_default
+returns-in_default c =
     let some : 0 < length c.args.text.now = search rules in
-    let no_zero : get_or c.args.text.now 0 0 ≡ 48 → length c.args.text.now ≡ 1 → ⊥ = λ p q. elim c.in-default.branch [ in-default-via-then-text-lt2+in-default· w ↦ grind (arith, nat_tests) | in-default-via-else-text-lt2 w ↦ grind (arith, nat_tests) ] in
-    c.read-sum.ensures ∙ sym (magnitude_sum c.args.text.now some no_zero)
+    let no_zero : get_or c.args.text.now 0 0 ≡ 48 → length c.args.text.now ≡ 1 → ⊥ = λ p q. elim c.in_default.branch [ in-default-via-then-text-lt2+in-default· w ↦ grind (arith, nat_tests) | in-default-via-else-text-lt2 w ↦ grind (arith, nat_tests) ] in
+    c.read_sum.ensures ∙ sym (magnitude_sum c.args.text.now some no_zero)

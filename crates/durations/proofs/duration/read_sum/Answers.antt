@@ -7,14 +7,14 @@ use Rattle.durations.proofs.duration.read_sum.Goals as goal
 pub loop-rest-init : goal.loop-rest-init
 loop-rest-init c = (omega arith, (length c.args.text.now + 1, omega arith, refl))
 
-pub returns-in-err-nanoseconds : goal.returns-in-err-nanoseconds
-returns-in-err-nanoseconds c =
+pub returns-in_err-nanoseconds : goal.returns-in_err-nanoseconds
+returns-in_err-nanoseconds c =
     let some : 0 < length c.loop-rest.rest.now = grind (arith, nat_tests) in
-    c.from-residual.ensures ∙ left_stuck _ c.loop-rest.total c.loop-rest.rest.now c.loop-rest.invariant.1 some (sym c.in-err-nanoseconds.ensures)
+    c.from_residual.ensures ∙ left_stuck _ c.loop-rest.total c.loop-rest.rest.now c.loop-rest.invariant.1 some (sym c.in_err-nanoseconds.ensures)
 
-pub overflow-add-sum : goal.overflow-add-sum
-overflow-add-sum c =
-    let a = amount_shrinks c.loop-rest.rest.now (c.in-ok-nanoseconds.nanoseconds, c.in-ok-nanoseconds.tail.now) (sym c.in-ok-nanoseconds.ensures) in
+pub overflow_add-sum : goal.overflow_add-sum
+overflow_add-sum c =
+    let a = amount_shrinks c.loop-rest.rest.now (c.in_ok-nanoseconds.nanoseconds, c.in_ok-nanoseconds.tail.now) (sym c.in_ok-nanoseconds.ensures) in
     omega (arith, a.value)
 
 pub returns-then-sum-ge-LIMIT : goal.returns-then-sum-ge-LIMIT

@@ -9,6 +9,6 @@ returns c =
     record {
       ok = room;
       at = rw (sym room) refl;
-      out = rw (sym room) (put_mid c.args.self.now.out.now c.args.self.now.at c.args.bytes.now c.copy-from-slice.new.self c.copy-from-slice.ensures.after);
+      out = rw (sym room) (put_mid c.args.self.now.out.now c.args.self.now.at c.args.bytes.now c.copy_from_slice.new.self c.copy_from_slice.ensures.after);
       name = refl;
     }

@@ -2,5 +2,5 @@ use Rattle.std.proofs.Common.{arith}
 use Rattle.durations.proofs.DurationFigures.{ten_positive}
 use Rattle.durations.proofs.duration.Numeral.nanoseconds.Goals as goal
 
-pub nonzero-div-result : goal.nonzero-div-result
-nonzero-div-result c = omega (arith, ten_positive c.args.self.decimals)
+pub nonzero_div-result : goal.nonzero_div-result
+nonzero_div-result c = omega (arith, ten_positive c.args.self.decimals)

@@ -5,8 +5,8 @@ use Rattle.json_scanner.proofs.stack.Stack.push.Goals as goal
 pub bounds-self-depth : goal.bounds-self-depth
 bounds-self-depth c = omega (arith, c.requires, opened-length c.args.self.now.kinds c.args.self.now.depth c.args.self.now.fits)
 
-pub invariant-of-self : goal.invariant-of-self
-invariant-of-self c =
+pub invariant_of-self : goal.invariant_of-self
+invariant_of-self c =
     let h : c.args.self.now.depth < length c.args.self.now.kinds = search (rules, c.requires, opened-length c.args.self.now.kinds c.args.self.now.depth c.args.self.now.fits) in
     (simp length-set (omega arith), tt)
 

@@ -14,7 +14,7 @@ use Rattle.durations.specs.declared.duration.Sign.{Sign}
 use Rattle.durations.specs.declared.duration.Sign.TheVariants.{Plus, Minus}
 use Rattle.durations.specs.declared.duration.Unit.{Unit as TimeUnit}
 use Rattle.durations.specs.Duration.{no_figures, longer, leading_figures, fraction, leading_numeral, begins, units, unit_of, leading_unit, unit_nanoseconds, whole_nanoseconds, leading_amount, sum_from, magnitude, sign, signed, duration}
-use Rattle.durations.specs.DurationGrammar.{Suffix, hour, minute, second, millisecond, microsecond, micro_sign, greek_mu, nanosecond, suffix_text, unit_value, Number, plain, pointed, digits, decimals, digits_text, number_text, Amount, amount_text, whole, amounts_text, total, Body, nought, amounts, all_amounts, body_text, Mark, bare, plus, minus, mark_text, marked, value, ProperAmount, Short, Spells}
+use Rattle.durations.specs.DurationGrammar.{Suffix, hour, minute, second, millisecond, microsecond, micro_sign, greek_mu, nanosecond, suffix_text, unit_value, Number, plain, pointed, digits, decimals, digits_text, number_text, Amount, amount_text, whole, amounts_text, total, Body, nought, amounts, all_amounts, body_text, Mark, bare, plus, minus, mark_text, marked, ProperAmount, Short, Spells}
 use Rattle.durations.proofs.DurationOptions.{not_some, some_same, then_some, mapped_some, cond_some, cond_none}
 use Rattle.durations.proofs.DurationAmounts.{Numbered, numeral_parts}
 use Rattle.durations.proofs.DurationSums.{sum_zero, sum_end, sum_turn, added, magnitude-below}

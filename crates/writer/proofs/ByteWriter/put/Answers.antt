@@ -1,4 +1,4 @@
-use Rattle.std.proofs.Common.{◌≡◌, true, sym, refl, arith, rules}
+use Rattle.std.proofs.Common.{◌≡◌, true, sym, refl, rules}
 use Rattle.writer.specs.Written.{fits}
 use Rattle.writer.proofs.Puts.{put_mid_lem}
 use Rattle.writer.proofs.ByteWriter.put.Goals as goal

@@ -1,15 +1,13 @@
 -- The rows of a table: each by those below it, and stable as the table and the texts grow.
-use Rattle.std.proofs.Common.{◌≡◌, ℕ, zero, suc, ◌+◌, ◌-◌, ◌<◌, ◌≤◌, List, [], ◌∷◌, ◌++◌, length, get_or, take, drop, sym, refl, ap, ◌∙◌, add-zero, zero-add, arith, length-append}
-use Rattle.std.proofs.lemmas.List.{append_assoc, append-nil, take-append-le, drop-append-le, take-take, take_all, take_at, get_or-take, get_or_at, length_push, length-drop}
-use Rattle.std.proofs.ByRecursion.{All-get_or}
-use Rattle.std.specs.List.{AllByRecursion as All}
+use Rattle.std.proofs.Common.{◌≡◌, ℕ, ◌+◌, ◌<◌, ◌≤◌, List, [], ◌∷◌, ◌++◌, length, get_or, take, drop, sym, refl, ap, ◌∙◌, add-zero, zero-add, arith}
+use Rattle.std.proofs.lemmas.List.{take-append-le, drop-append-le, take-take, take_all, take_at, get_or-take, length_push, length-drop}
 use Rattle.json_values.specs.declared.parts.Part.{Part}
 use Rattle.json_values.specs.declared.parts.Source.{Source}
 use Rattle.json_values.specs.declared.table.Entry.{Entry}
 use Rattle.json_values.specs.declared.table.Cell.{Cell}
 use Rattle.json_values.specs.declared.table.Cell.TheVariants as cell
 use Rattle.json_values.specs.Value.{text}
-use Rattle.json_values.specs.Meaning.{Row, no_row, part_of, meaning, row_of, rows_from, rows_of, value_at}
+use Rattle.json_values.specs.Meaning.{Row, no_row, part_of, meaning, row_of, rows_from, rows_of}
 use Rattle.json_values.specs.Laws.{Inside, CellInside, AllInside, Grown, MeaningsStay}
 
 module _ (s : Source → List ℕ) where

@@ -1,7 +1,7 @@
 -- Keys that ascend, and a search by halves.
-use Rattle.std.proofs.Common.{◌≡◌, ℕ, ◌+◌, ◌-◌, ◌<◌, ◌≤◌, List, Ordering, Less, Equal, Greater, sym, refl, ap, ◌∙◌, subst, ⊎_elim, arith}
+use Rattle.std.proofs.Common.{◌≡◌, ℕ, ◌+◌, ◌<◌, ◌≤◌, List, Less, Greater, sym, refl, ap, ◌∙◌, subst, ⊎_elim, arith}
 use Rattle.order.specs.Bytes.{compare_bytes, ByteOrder}
-use Rattle.std.proofs.lemmas.Bool.{cases_lt, cases_order}
+use Rattle.std.proofs.lemmas.Bool.{cases_lt}
 use Rattle.std.specs.Ordering.{ordering_reverse}
 
 -- the keys of the numbers from `first` to `end` ascend

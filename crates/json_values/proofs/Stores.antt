@@ -1,6 +1,6 @@
 -- The bytes of a store as they change.
-use Rattle.std.proofs.Common.{◌≡◌, ℕ, suc, ◌+◌, ◌-◌, ◌<◌, ◌≤◌, min, List, [], ◌∷◌, ◌++◌, length, take, drop, set, replicate, Ok, Err, Result, Vec, sym, refl, ap, ◌∙◌, ⊎_elim, arith}
-use Rattle.std.proofs.lemmas.List.{append_assoc, take-append-drop, take_all, take_at, take-take, take_more_set, drop_at, drop-drop, drop-set, drop-set-lt, drop-replicate, length-append, length-take-le, length-set, take-set-le, with_items_is, length-drop, drop_all}
+use Rattle.std.proofs.Common.{◌≡◌, ℕ, suc, ◌+◌, ◌-◌, ◌<◌, ◌≤◌, min, List, [], ◌∷◌, ◌++◌, length, take, drop, set, Ok, Err, Result, Vec, sym, refl, ap, ◌∙◌, ⊎_elim, arith}
+use Rattle.std.proofs.lemmas.List.{append_assoc, take-append-drop, take_all, take_at, take_more_set, drop_at, drop-drop, drop-set, drop-set-lt, drop-replicate, length-append, length-take-le, with_items_is, length-drop, drop_all}
 use Rattle.std.proofs.lemmas.Bool.{cond-true, le-leb, cases_lt}
 use Rattle.std.specs.Vec.{with_items}
 use Rattle.std.specs.declared.alloc.Global.{Global}

@@ -1,11 +1,11 @@
 -- What stays as tables and stores grow.
-use Rattle.std.specs.Prelude.{◌≡◌, ℕ, ◌+◌, ◌<◌, ◌≤◌, List, ◌++◌, length, get_or}
+use Rattle.std.specs.Prelude.{◌≡◌, ℕ, ◌+◌, ◌<◌, ◌≤◌, List, ◌++◌, length}
 use Rattle.json_values.specs.declared.parts.Part.{Part}
 use Rattle.json_values.specs.declared.parts.Source.{Source}
 use Rattle.json_values.specs.declared.table.Entry.{Entry}
 use Rattle.json_values.specs.declared.table.Cell.{Cell}
 use Rattle.json_values.specs.declared.table.Cell.TheVariants as cell
-use Rattle.json_values.specs.Meaning.{no_entry, value_at}
+use Rattle.json_values.specs.Meaning.{value_at}
 use Rattle.std.specs.List.{AllByRecursion as All}
 
 -- a part ends within the texts of its store

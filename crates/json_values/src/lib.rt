@@ -35,18 +35,18 @@ mod tests {
         );
         assert_eq!(rt;
             held_text(&schema, &record, &older, part(Source::Schema, 1, 2)),
-            b"pe"
+            b"pe".as_slice()
         );
         assert_eq!(rt;
             held_text(&schema, &record, &older, part(Source::Record, 4, 9)),
-            b"us!"
+            b"us!".as_slice()
         );
         assert_eq!(rt;
             held_text(&schema, &record, &older, part(Source::Older, 0, 1)),
-            b""
+            b"".as_slice()
         );
         record.truncate(4);
-        assert_eq!(rt; record.text(), b"stat");
+        assert_eq!(rt; record.text(), b"stat".as_slice());
         assert_eq!(rt; record.bytes()[4], 0);
         Ok(())
     }

@@ -12,4 +12,4 @@ returns c =
       | in-Record w ↦ (let e = ap (texts_of c.args.schema.now c.args.record.now c.args.older.now) w.in-Record.is in cc)
       | in-Older w ↦ (let e = ap (texts_of c.args.schema.now c.args.record.now c.args.older.now) w.in-Older.is in cc)
     ] in
-    c.part-text.ensures ∙ ap (λ (z : List _). take p.len (drop p.start z)) held
+    c.part_text.ensures ∙ ap (λ (z : List _). take p.len (drop p.start z)) held

@@ -1,4 +1,4 @@
-use Rattle.std.proofs.Common.{◌≡◌, ℕ, ◌+◌, ◌-◌, ◌≤◌, List, [], ◌∷◌, ◌++◌, length, take, drop, sym, ap, ◌∙◌, arith, length-append, rules}
+use Rattle.std.proofs.Common.{◌≡◌, ℕ, ◌+◌, ◌-◌, ◌≤◌, List, ◌++◌, length, take, drop, sym, ap, ◌∙◌, arith, length-append}
 use borrow.Rule.Slice.PartMut.{post_of}
 use Rattle.std.specs.Vec.{with_items}
 use Rattle.std.proofs.lemmas.List.{drop-drop, length-drop}
@@ -31,21 +31,25 @@ module _ (s : Store) (more xs ys : List ℕ) (fit : s.len + length more ≤ 6553
   written_is : (with_items s.bytes (pasted s.len xs ys (s.len + length more - s.len))).items ≡ take s.len s.bytes.items ++ (more ++ drop (s.len + length more) s.bytes.items)
   written_is = rewritten s.bytes (pasted s.len xs ys (s.len + length more - s.len)) size ∙ is
 
-pub invariant-of-self : goal.invariant-of-self
-invariant-of-self c =
+pub invariant_of-self : goal.invariant_of-self
+invariant_of-self c =
     let s = c.args.self.now in
     let more = c.args.more.now in
     let fit : s.len + length more ≤ 65535 = omega (arith, c.if-more-len.false, s.within) in
-    let w = written_is s more c.as-mut-slice.result.now c.copy-from-slice.new.self fit c.as-mut-slice.ensures.value c.copy-from-slice.ensures.after in
-    (s.long, (fit, (append_blank s.bytes.items s.len (long s more c.as-mut-slice.result.now c.copy-from-slice.new.self fit c.as-mut-slice.ensures.value c.copy-from-slice.ensures.after) s.within s.blank more _ fit w, tt)))
+    let w = written_is s more c.as_mut_slice.result.now c.copy_from_slice.new.self fit c.as_mut_slice.ensures.value c.copy_from_slice.ensures.after in
+    record {
+      long = s.long;
+      within = fit;
+      blank = append_blank s.bytes.items s.len (long s more c.as_mut_slice.result.now c.copy_from_slice.new.self fit c.as_mut_slice.ensures.value c.copy_from_slice.ensures.after) s.within s.blank more _ fit w;
+    }
 
 pub returns : goal.returns
 returns c =
     let s = c.args.self.now in
     let more = c.args.more.now in
     let fit : s.len + length more ≤ 65535 = omega (arith, c.if-more-len.false, s.within) in
-    let l = long s more c.as-mut-slice.result.now c.copy-from-slice.new.self fit c.as-mut-slice.ensures.value c.copy-from-slice.ensures.after in
-    let w = written_is s more c.as-mut-slice.result.now c.copy-from-slice.new.self fit c.as-mut-slice.ensures.value c.copy-from-slice.ensures.after in
+    let l = long s more c.as_mut_slice.result.now c.copy_from_slice.new.self fit c.as_mut_slice.ensures.value c.copy_from_slice.ensures.after in
+    let w = written_is s more c.as_mut_slice.result.now c.copy_from_slice.new.self fit c.as_mut_slice.ensures.value c.copy_from_slice.ensures.after in
     let e = append_text s.bytes.items s.len l s.within s.blank more _ fit w in
     let room : length (written s) + length more ≤ 65535 = omega (arith, written-length s.bytes.items s.len l s.within s.blank) in
     record {

@@ -1,15 +1,15 @@
-use Rattle.std.proofs.Common.{◌≡◌, ℕ, ◌+◌, ◌-◌, ◌<◌, ◌≤◌, length, take, set, sym, ap, ◌∙◌, arith, rules}
+use Rattle.std.proofs.Common.{◌≡◌, ◌+◌, ◌-◌, ◌<◌, ◌≤◌, length, set, sym, ◌∙◌, arith}
 use Rattle.std.proofs.lemmas.List.{take-take, take-set-le, take_all}
 use Rattle.json_values.specs.Stored.{written}
 use Rattle.json_values.proofs.Stores.{pop_blank, written-length}
 use Rattle.json_values.proofs.store.Store.truncate.Goals as goal
 
-pub invariant-of-self : goal.invariant-of-self
-invariant-of-self c =
+pub invariant_of-self : goal.invariant_of-self
+invariant_of-self c =
     let s = c.loop-self.self in
     let long : length s.bytes.items ≡ 65535 = omega (arith, s.bytes.ok.0, s.long) in
     let last : s.len - 1 + 1 ≡ s.len = omega (arith, c.loop-self-test.true) in
-    (s.long, (omega arith, (pop_blank s.bytes.items s.len long s.within s.blank (s.len - 1) last, tt)))
+    record { long = s.long; within = omega arith; blank = pop_blank s.bytes.items s.len long s.within s.blank (s.len - 1) last }
 
 pub loop-self-preserved : goal.loop-self-preserved
 loop-self-preserved c =

@@ -1,4 +1,4 @@
-use Rattle.std.proofs.Common.{◌≡◌, ◌-◌, ◌≤◌, take}
+use Rattle.std.proofs.Common.{◌≡◌, ◌-◌, take}
 use Rattle.json_values.specs.Stored.{written}
 use Rattle.json_values.proofs.store.Store.truncate.Given as goal
 

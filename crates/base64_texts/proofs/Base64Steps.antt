@@ -1,13 +1,13 @@
 -- A text, four signs at a time, as the loops take it.
 
-use Rattle.std.proofs.Common.{◌≡◌, ℕ, suc, ◌+◌, ◌-◌, ◌<◌, ◌≤◌, Bool, true, false, eqb, List, [], ◌∷◌, ◌++◌, length, get_or, take, drop, is_some, Some, None, Option, unwrap_or, sym, refl, ap, ◌∙◌, ⊎_elim, add_assoc, arith, length-append, length-drop, length-take}
+use Rattle.std.proofs.Common.{◌≡◌, ℕ, suc, ◌+◌, ◌-◌, ◌<◌, ◌≤◌, Bool, true, eqb, List, [], ◌∷◌, ◌++◌, length, get_or, take, drop, is_some, Some, None, Option, unwrap_or, sym, refl, ap, ◌∙◌, ⊎_elim, add_assoc, arith, length-append, length-drop, length-take}
 use Rattle.std.specs.Option.{option_map}
 use Rattle.std.proofs.lemmas.List.{take_all}
 use Rattle.std.proofs.lemmas.Bool.{ne_eqb, cases_lt}
-use Rattle.base64.specs.declared.base64.Octets.{Octets}
-use Rattle.base64.specs.declared.base64.Octets.TheVariants.{One, Two, Three}
-use Rattle.base64.specs.Base64.{decoded, ended, quantum, then}
-use Rattle.base64.specs.Base64Decoder.{octets, bytes_of}
+use Rattle.base64_texts.specs.declared.base64.Octets.{Octets}
+use Rattle.base64_texts.specs.declared.base64.Octets.TheVariants.{One, Two, Three}
+use Rattle.base64_texts.specs.Base64.{decoded, ended, quantum, then}
+use Rattle.base64_texts.specs.Base64Decoder.{octets, bytes_of}
 
 -- what follows the first four signs, as a slice pattern has it
 abbrev pub rest_of : List ℕ → List ℕ

@@ -1,7 +1,7 @@
 use Rattle.std.proofs.Common.{◌≡◌, ◌+◌, ◌≤◌, true, length, is_some}
-use Rattle.base64.specs.Base64.{decoded}
-use Rattle.base64.specs.Base64Decoder.{put, bytes_of}
-use Rattle.base64.proofs.base64.write_all.Given as goal
+use Rattle.base64_texts.specs.Base64.{decoded}
+use Rattle.base64_texts.specs.Base64Decoder.{put, bytes_of}
+use Rattle.base64_texts.proofs.base64.write_all.Given as goal
 
 -- what is left is base64, has room, and written from here on gives the whole
 abbrev pub invariant-loop-left : goal.invariant-loop-left

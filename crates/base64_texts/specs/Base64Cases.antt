@@ -1,7 +1,7 @@
 -- Two texts worked by hand.
 
 use Rattle.std.specs.Prelude.{◌≡◌, [], ◌∷◌, Some, None, codes}
-use Rattle.base64.specs.Base64.{decoded}
+use Rattle.base64_texts.specs.Base64.{decoded}
 
 -- "Zg==" is the byte "f", and "Zh==", whose spare bits are not zero, is no base64
 pub record WorkedBytes : Type 0 where

@@ -2,11 +2,11 @@
 
 use Rattle.std.specs.Prelude.{ℕ, ◌+◌, cond, List, [], ◌∷◌, ◌++◌, length, take, drop, Some, None, Ok, Err, Option, Result, nat_le}
 use Rattle.std.specs.Option.{unwrap_or}
-use Rattle.base64.specs.declared.base64.DecodeError.{DecodeError}
-use Rattle.base64.specs.declared.base64.DecodeError.TheVariants.{NotBase64, BufferShort}
-use Rattle.base64.specs.declared.base64.Octets.{Octets}
-use Rattle.base64.specs.declared.base64.Octets.TheVariants.{One, Two, Three}
-use Rattle.base64.specs.Base64.{decoded}
+use Rattle.base64_texts.specs.declared.base64.DecodeError.{DecodeError}
+use Rattle.base64_texts.specs.declared.base64.DecodeError.TheVariants.{NotBase64, BufferShort}
+use Rattle.base64_texts.specs.declared.base64.Octets.{Octets}
+use Rattle.base64_texts.specs.declared.base64.Octets.TheVariants.{One, Two, Three}
+use Rattle.base64_texts.specs.Base64.{decoded}
 
 -- the answer for what a text stands for, with room for so many bytes
 abbrev pub answer : Option (List ℕ) → ℕ → Result ℕ DecodeError

@@ -4,7 +4,7 @@
 use Rattle.std.proofs.Common.{◌≡◌, ℕ, zero, suc, ◌+◌, ◌-◌, ◌<◌, Bool, true, cond, ◌&&◌, eqb, ltb, Some, sym, refl, ap, ◌∙◌, ⊎_elim, arith}
 use Rattle.std.proofs.lemmas.Bool.{and_parts, cases_eq, eqb-true}
 use Rattle.std.proofs.lemmas.Bool.Decides.{nat_tests}
-use Rattle.base64.specs.Base64.{alphabet, sign, pad, sextet}
+use Rattle.base64_texts.specs.Base64.{alphabet, sign, pad, sextet}
 
 -- the test passes at each number below n
 abbrev upto : (ℕ → Bool) → ℕ → Bool

@@ -2,8 +2,8 @@
 // other sign anywhere. A text is checked as a whole before the first byte is written.
 ghost use Rattle.std.specs.Prelude.{◌≡◌, ◌+◌, ◌<◌, ◌≤◌, true, length, is_some, IfSome};
 ghost use Rattle.std.specs.Option.{option_map};
-ghost use Rattle.base64.specs.Base64.{sextet, one_octet, two_octets, three_octets, quantum, decoded, Base64Inverts};
-ghost use Rattle.base64.specs.Base64Decoder.{answer, filled, put, bytes_of, octets};
+ghost use Rattle.base64_texts.specs.Base64.{sextet, one_octet, two_octets, three_octets, quantum, decoded, Base64Inverts};
+ghost use Rattle.base64_texts.specs.Base64Decoder.{answer, filled, put, bytes_of, octets};
 
 // Why a text was not decoded.
 #[derive(Clone, Copy, PartialEq, Eq, Debug)]

@@ -1,8 +1,8 @@
 use Rattle.std.proofs.Common.{◌≡◌, ℕ, ◌+◌, ◌<◌, List, [], ◌∷◌, length, set, ap, ◌∙◌, arith}
-use Rattle.base64.specs.declared.base64.Octets.{Octets}
-use Rattle.base64.specs.Base64Decoder.{put, octets}
-use Rattle.base64.proofs.Base64Puts.{put_one, put_more}
-use Rattle.base64.proofs.base64.Octets.write.Goals as goal
+use Rattle.base64_texts.specs.declared.base64.Octets.{Octets}
+use Rattle.base64_texts.specs.Base64Decoder.{put, octets}
+use Rattle.base64_texts.proofs.Base64Puts.{put_one, put_more}
+use Rattle.base64_texts.proofs.base64.Octets.write.Goals as goal
 
 two : (d : List ℕ) (at x y : ℕ) → at + 1 < length d → set (set d at x) (at + 1) y ≡ put d at (x ∷ y ∷ [])
 two d at x y h = ap (λ (z : List ℕ). set z (at + 1) y) (put_one d at x (omega arith)) ∙ put_more d at (x ∷ []) y h

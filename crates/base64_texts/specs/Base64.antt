@@ -2,7 +2,7 @@
 
 use Rattle.std.specs.Prelude.{◌≡◌, ℕ, ◌+◌, ◌-◌, ◌*◌, ◌/◌, ◌%◌, ◌<◌, Bool, true, false, cond, ◌&&◌, List, [], ◌∷◌, ◌++◌, Some, None, codes, Option, ◌==◌, nat_le, slice_index}
 use Rattle.std.specs.Option.{option_map}
-use Rattle.std.specs.List.{AllByRecursion as All}
+use Rattle.std.specs.List.{AllByRecursion}
 
 -- the 64 signs, each at the place of the six bits that it stands for
 unfoldable pub alphabet : List ℕ
@@ -77,8 +77,8 @@ decoded (a ∷ b ∷ c ∷ d ∷ rest) =
 -- decoding is the inverse of encoding, and answers on nothing else
 pub record Base64Inverts : Type 0 where
   -- bytes that are encoded are decoded again
-  pub decodes_encoded : (bytes : List ℕ) → All (λ x. x < 256) bytes → decoded (encode bytes) ≡ Some bytes
+  pub decodes_encoded : (bytes : List ℕ) → AllByRecursion (λ x. x < 256) bytes → decoded (encode bytes) ≡ Some bytes
   -- a text that is decoded is the text of its bytes
-  pub encodes_decoded : (text bytes : List ℕ) → decoded text ≡ Some bytes → (encode bytes ≡ text) × All (λ x. x < 256) bytes
+  pub encodes_decoded : (text bytes : List ℕ) → decoded text ≡ Some bytes → (encode bytes ≡ text) × AllByRecursion (λ x. x < 256) bytes
   -- no two texts are decoded to the same bytes
   pub one_text : (text other bytes : List ℕ) → decoded text ≡ Some bytes → decoded other ≡ Some bytes → text ≡ other

@@ -2,15 +2,15 @@
 
 use Rattle.std.proofs.Common.{◌≡◌, ℕ, ◌+◌, ◌*◌, ◌/◌, ◌%◌, ◌<◌, Bool, true, false, cond, eqb, ◌⊎◌, List, [], ◌∷◌, ◌++◌, Some, None, Option, sym, refl, ◌∙◌, inl, inr, ⊎_elim, arith}
 use Rattle.std.specs.Option.{option_map}
-use Rattle.std.specs.List.{AllByRecursion as All}
+use Rattle.std.specs.List.{AllByRecursion}
 use Rattle.std.proofs.ByRecursion.{All-append}
 use Rattle.std.proofs.lemmas.List.{append-nil}
 use Rattle.std.proofs.lemmas.Bool.{eq-eqb, ne_eqb, cases_eq, false≢true}
-use Rattle.base64.specs.Base64.{sign, pad, encode, sextet, then, one_octet, two_octets, three_octets, quantum, ended, decoded, Base64Inverts}
-use Rattle.base64.proofs.Base64Signs.{sextet-sign, sign-sextet, sign_not_pad}
+use Rattle.base64_texts.specs.Base64.{sign, pad, encode, sextet, then, one_octet, two_octets, three_octets, quantum, ended, decoded, Base64Inverts}
+use Rattle.base64_texts.proofs.Base64Signs.{sextet-sign, sign-sextet, sign_not_pad}
 
 abbrev Bytes : List ℕ → Type 0
-Bytes = All (λ x. x < 256)
+Bytes = AllByRecursion (λ x. x < 256)
 
 -- the octets of signs whose six bits are given
 abbrev one_by : Option ℕ → Option ℕ → Option (List ℕ)

@@ -1,7 +1,7 @@
 use Rattle.std.proofs.Common.{◌≡◌, ℕ, ◌+◌, ◌≤◌, length}
 use Rattle.std.specs.Option.{option_map}
-use Rattle.base64.specs.Base64.{decoded}
-use Rattle.base64.proofs.base64.decoded_len.Given as goal
+use Rattle.base64_texts.specs.Base64.{decoded}
+use Rattle.base64_texts.proofs.base64.decoded_len.Given as goal
 
 -- what is left has so many bytes less, and each byte so far was of a sign
 abbrev pub invariant-loop-left : goal.invariant-loop-left

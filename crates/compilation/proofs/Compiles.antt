@@ -11,7 +11,7 @@ use Rattle.std.proofs.lemmas.List.{drop_all}
 use Rattle.std.proofs.lemmas.Option.{slice_get-get_or}
 use Rattle.std.specs.Option.{option_map}
 use Rattle.std.specs.List.{slice_get}
-use Rattle.json.specs.declared.parts.Source.TheVariants.{Schema}
+use Rattle.json_values.specs.declared.parts.Source.TheVariants.{Schema}
 
 module _ (m : Meaning) (acc : List (List ℕ)) where
   -- a number stands for the expression that it was given for

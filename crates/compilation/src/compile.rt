@@ -2,14 +2,14 @@
 ghost use Rattle.std.specs.Prelude.{◌≡◌, codes};
 ghost use Rattle.compilation.specs.Compiled.{fate_of};
 ghost use Rattle.compilation.specs.Fates.{StepTaken, after_message, fated, with_message};
-ghost use Rattle.json.specs.Meaning.{part_of};
+ghost use Rattle.json_values.specs.Meaning.{part_of};
 ghost use Rattle.rule_host.specs.Compiling.{compiled, mentions_at};
 ghost use Rattle.schema.specs.Laws.{rule_said};
 ghost use Rattle.std.specs.Option.{option_map, unwrap_or};
 
 use super::validation::{CompilationError, CompilationResult, Validation};
-use json::part_text;
-use json::parts::Part;
+use json_values::part_text;
+use json_values::parts::Part;
 use rule_host::answer::Compiled;
 use rule_host::host::RuleHost;
 use schema::rule::{InvalidRule, Rule};

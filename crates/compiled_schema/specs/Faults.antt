@@ -5,8 +5,8 @@ use Rattle.compilation.specs.declared.fault.LoadFault.TheVariants as load
 use Rattle.compiled_schema.specs.declared.fault.Fault.{Fault}
 use Rattle.compiled_schema.specs.declared.fault.Refusal.{Refusal}
 use Rattle.compiled_schema.specs.declared.fault.Refusal.TheVariants.{Malformed, Nested, Number, Crowded, TreeFull, RulesFull, ProgramsFull}
-use Rattle.json.specs.declared.parts.Source.{Source}
-use Rattle.json.specs.declared.parts.Source.TheVariants.{Schema}
+use Rattle.json_values.specs.declared.parts.Source.{Source}
+use Rattle.json_values.specs.declared.parts.Source.TheVariants.{Schema}
 use Rattle.json_reader.specs.declared.fault.Fault.{Fault as ReadFault}
 use Rattle.json_scanner.specs.declared.modes.Fault.{Fault as Flaw}
 use Rattle.json_scanner.specs.declared.modes.Fault.TheVariants as flaw

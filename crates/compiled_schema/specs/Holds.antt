@@ -4,8 +4,8 @@ use Rattle.compilation.specs.Compiled.{fate_of}
 use Rattle.compilation.specs.Fates.{Fate}
 use Rattle.compiled_schema.specs.declared.compiled.CompiledSchema.{CompiledSchema}
 use Rattle.fixed.specs.Listed.{listed}
-use Rattle.json.specs.Stored.{written}
-use Rattle.json.specs.declared.table.Entry.{Entry}
+use Rattle.json_values.specs.Stored.{written}
+use Rattle.json_values.specs.declared.table.Entry.{Entry}
 use Rattle.schema_tree.specs.Builds.{tables}
 use Rattle.schema_tree.specs.Stands.{Tables}
 

@@ -6,8 +6,8 @@ use Rattle.compilation.specs.declared.fault.LoadFault.{LoadFault}
 use Rattle.compiled_schema.specs.Faults.{load_fault, read_fault}
 use Rattle.compiled_schema.specs.Holds.{Held, nothing}
 use Rattle.compiled_schema.specs.declared.fault.Fault.{Fault}
-use Rattle.json.specs.declared.parts.Source.TheVariants.{Schema}
-use Rattle.json.specs.declared.table.Entry.{Entry}
+use Rattle.json_values.specs.declared.parts.Source.TheVariants.{Schema}
+use Rattle.json_values.specs.declared.table.Entry.{Entry}
 use Rattle.json_reader.specs.Law.{Refused, Taken}
 use Rattle.json_reader.specs.Values.{value_of}
 use Rattle.json_reader.specs.declared.fault.Fault.{Fault as ReadFault}

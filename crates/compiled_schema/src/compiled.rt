@@ -1,7 +1,7 @@
 // A compiled schema, in memory that is taken once.
 use compilation::Validations;
-use json::store::Store;
-use json::table::Table;
+use json_values::store::Store;
+use json_values::table::Table;
 use schema_tree::SchemaTree;
 
 // The texts and values of a schema, its nodes and rules, the compiled rules, and where the root is among the nodes; no

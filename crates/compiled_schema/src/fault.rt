@@ -3,7 +3,7 @@ ghost use Rattle.std.specs.Prelude.{◌≡◌};
 ghost use Rattle.compiled_schema.specs.Faults.{flawed, load_fault, read_fault, refusal_number, refusal_word};
 
 use compilation::fault::LoadFault;
-use json::parts::Source;
+use json_values::parts::Source;
 use json_reader::fault::Fault as ReadFault;
 use json_scanner::modes::Fault as Flaw;
 

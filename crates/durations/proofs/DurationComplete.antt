@@ -6,7 +6,7 @@ use Rattle.std.proofs.lemmas.Bool.Decides.{nat_tests}
 use Rattle.std.specs.Option.{option_map}
 use Rattle.std.specs.Char.{is_ascii_digit}
 use Rattle.std.specs.Int.Digits.{number_from_digits, number_from_digits_after}
-use Rattle.std.specs.List.{AllByRecursion as All}
+use Rattle.std.specs.List.{AllByRecursion}
 use Rattle.durations.specs.declared.duration.Figures.{Figures}
 use Rattle.durations.specs.declared.duration.Numeral.{Numeral}
 use Rattle.durations.specs.declared.duration.Sign.{Sign}
@@ -35,7 +35,7 @@ figures_stop : (f : Figures) (s : List ℕ) → BehindDigits s → leading_figur
 figures_stop f [] h = refl
 figures_stop f (b ∷ s) h = rw h
 
-pub figures_read : (f : Figures) (ds rest : List ℕ) → All (λ d. d < 10) ds → f.count + length ds ≤ 15 → BehindDigits rest → leading_figures f (digits_text ds ++ rest) ≡ Some (extended f ds, rest)
+pub figures_read : (f : Figures) (ds rest : List ℕ) → AllByRecursion (λ d. d < 10) ds → f.count + length ds ≤ 15 → BehindDigits rest → leading_figures f (digits_text ds ++ rest) ≡ Some (extended f ds, rest)
 figures_read f [] rest all few behind = figures_stop f rest behind
 figures_read f (d ∷ ds) rest all few behind =
     let small : d < 10 = all.0 in
@@ -65,7 +65,7 @@ behind_whole w = then (fraction w.0 w.1) (λ p. option_map (λ n. (n, p.1)) (num
 abbrev behind_all : Figures → Figures × List ℕ → Option (Numeral × List ℕ)
 behind_all w p = option_map (λ n. (n, p.1)) (numbered w p.0)
 
-pub numeral_read : (n : Number) (rest : List ℕ) → All (λ d. d < 10) (digits n) → 0 < length (digits n) → length (digits n) ≤ 15 → BehindNumber rest
+pub numeral_read : (n : Number) (rest : List ℕ) → AllByRecursion (λ d. d < 10) (digits n) → 0 < length (digits n) → length (digits n) ≤ 15 → BehindNumber rest
     → leading_numeral (number_text n ++ rest) ≡ Some (as_numeral n, rest)
 numeral_read (plain ds) rest all some few behind =
     let w = extended no_figures ds in
@@ -136,7 +136,7 @@ amount_read a rest proper short behind =
 -- ---- sums
 
 -- total, and the amounts that are spelled
-pub sum_read : (k t : ℕ) (more : List Amount) → All ProperAmount more → All Short more → length more < k → t + total more < 2 ^ 63 → sum_from k t (amounts_text more) ≡ Some (t + total more)
+pub sum_read : (k t : ℕ) (more : List Amount) → AllByRecursion ProperAmount more → AllByRecursion Short more → length more < k → t + total more < 2 ^ 63 → sum_from k t (amounts_text more) ≡ Some (t + total more)
 sum_read k t [] proper short fuel small = sum_end k t (omega arith) ∙ ap (λ n. Some n) (omega arith)
 sum_read zero t (a ∷ more) proper short fuel small = absurd (omega arith)
 sum_read (suc k) t (a ∷ more) proper short fuel small =
@@ -145,7 +145,7 @@ sum_read (suc k) t (a ∷ more) proper short fuel small =
     ∙ sum_read k (t + whole a) more proper.1 short.1 (omega arith) (omega arith)
     ∙ ap (λ n. Some n) (omega arith)
 
-body_read : (b : Body) → All ProperAmount (all_amounts b) → All Short (all_amounts b) → total (all_amounts b) < 2 ^ 63 → magnitude (body_text b) ≡ Some (total (all_amounts b))
+body_read : (b : Body) → AllByRecursion ProperAmount (all_amounts b) → AllByRecursion Short (all_amounts b) → total (all_amounts b) < 2 ^ 63 → magnitude (body_text b) ≡ Some (total (all_amounts b))
 body_read nought proper short small = refl
 body_read (amounts a more) proper short small =
     let s = amounts_text (a ∷ more) in

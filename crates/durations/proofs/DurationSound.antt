@@ -7,14 +7,14 @@ use Rattle.std.proofs.lemmas.Bool.Decides.{nat_tests}
 use Rattle.std.specs.Option.{option_map}
 use Rattle.std.specs.Char.{is_ascii_digit}
 use Rattle.std.specs.Int.Digits.{number_from_digits, number_from_digits_after}
-use Rattle.std.specs.List.{AllByRecursion as All}
+use Rattle.std.specs.List.{AllByRecursion}
 use Rattle.durations.specs.declared.duration.Figures.{Figures}
 use Rattle.durations.specs.declared.duration.Numeral.{Numeral}
 use Rattle.durations.specs.declared.duration.Sign.{Sign}
 use Rattle.durations.specs.declared.duration.Sign.TheVariants.{Plus, Minus}
 use Rattle.durations.specs.declared.duration.Unit.{Unit as TimeUnit}
 use Rattle.durations.specs.Duration.{no_figures, longer, leading_figures, fraction, leading_numeral, begins, units, unit_of, leading_unit, unit_nanoseconds, whole_nanoseconds, leading_amount, sum_from, magnitude, sign, signed, duration}
-use Rattle.durations.specs.DurationGrammar.{Suffix, hour, minute, second, millisecond, microsecond, micro_sign, greek_mu, nanosecond, suffix_text, unit_value, Number, plain, pointed, digits, decimals, digits_text, number_text, Amount, amount_text, whole, amounts_text, total, Body, nought, amounts, all_amounts, body_text, Mark, bare, plus, minus, mark_text, marked, value, ProperAmount, Short, Spells}
+use Rattle.durations.specs.DurationGrammar.{Suffix, hour, minute, second, millisecond, microsecond, micro_sign, greek_mu, nanosecond, suffix_text, unit_value, Number, plain, pointed, digits, decimals, digits_text, number_text, Amount, amount_text, whole, amounts_text, total, Body, nought, amounts, all_amounts, body_text, Mark, bare, plus, minus, mark_text, marked, ProperAmount, Short, Spells}
 use Rattle.durations.proofs.DurationOptions.{not_some, some_same, then_some, mapped_some, cond_some, cond_none}
 use Rattle.durations.proofs.DurationAmounts.{Numbered, numeral_parts}
 use Rattle.durations.proofs.DurationSums.{sum_zero, sum_end, sum_turn, added, magnitude-below}
@@ -23,7 +23,7 @@ use Rattle.durations.proofs.DurationComplete.{extended, extended-value, extended
 -- digits that stand at the front of s, and what follows them
 pub record DigitsRead (f : Figures) (s : List ℕ) (p : Figures × List ℕ) : Type 0 where
   pub read : List ℕ
-  pub proper : All (λ d. d < 10) read
+  pub proper : AllByRecursion (λ d. d < 10) read
   pub text : s ≡ digits_text read ++ p.1
   pub figures_are : p.0 ≡ extended f read
   pub few : p.0.count ≤ 15
@@ -56,7 +56,7 @@ figures_sound f (b ∷ s) p few e = digits_by f b s p few (is_ascii_digit b) (lt
 -- a number whose digits before the point are w, and all f
 pub record NumberRead (s : List ℕ) (w : Figures) (p : Figures × List ℕ) : Type 0 where
   pub parts : Number
-  pub proper : All (λ d. d < 10) (digits parts)
+  pub proper : AllByRecursion (λ d. d < 10) (digits parts)
   pub text : s ≡ number_text parts ++ p.1
   pub value_is : p.0.value ≡ number_from_digits 10 (digits parts)
   pub count_is : p.0.count ≡ length (digits parts)
@@ -124,14 +124,14 @@ pub record UnitRead (s : List ℕ) (q : TimeUnit × List ℕ) : Type 0 where
   pub text : s ≡ suffix_text suffix ++ q.1
   pub value_is : unit_nanoseconds q.0 ≡ unit_value suffix
 
-unit_of_sound : (t : List (List ℕ × TimeUnit)) (s : List ℕ) (q : TimeUnit × List ℕ) → All (λ x. Known x.0 x.1) t → unit_of t s ≡ Some q → UnitRead s q
+unit_of_sound : (t : List (List ℕ × TimeUnit)) (s : List ℕ) (q : TimeUnit × List ℕ) → AllByRecursion (λ x. Known x.0 x.1) t → unit_of t s ≡ Some q → UnitRead s q
 unit_of_sound [] s q all e = not_some q e
 unit_of_sound (x ∷ t) s q all e =
     cond_some (UnitRead s) (begins x.0 s) (x.1, drop (length x.0) s) (unit_of t s) q e
     (λ b. record { suffix = all.0.suffix; text = begins_splits x.0 s b ∙ ap (λ w. w ++ drop (length x.0) s) (sym all.0.text); value_is = all.0.value_is })
     (unit_of_sound t s q all.1)
 
-all_known : All (λ x. Known x.0 x.1) units
+all_known : AllByRecursion (λ x. Known x.0 x.1) units
 all_known = (
   record { suffix = millisecond; text = refl; value_is = refl },
   (
@@ -193,8 +193,8 @@ amount_sound s p e =
 
 pub record SumRead (t : ℕ) (s : List ℕ) (n : ℕ) : Type 0 where
   pub read : List Amount
-  pub proper : All ProperAmount read
-  pub short : All Short read
+  pub proper : AllByRecursion ProperAmount read
+  pub short : AllByRecursion Short read
   pub text : s ≡ amounts_text read
   pub value_is : n ≡ t + total read
 
@@ -218,13 +218,13 @@ sum_sound (suc k) t (b ∷ s) n e =
 
 pub record BodyRead (s : List ℕ) (n : ℕ) : Type 0 where
   pub read : Body
-  pub proper : All ProperAmount (all_amounts read)
-  pub short : All Short (all_amounts read)
+  pub proper : AllByRecursion ProperAmount (all_amounts read)
+  pub short : AllByRecursion Short (all_amounts read)
   pub text : body_text read ≡ s
   pub value_is : total (all_amounts read) ≡ n
 
 -- a sum over some byte has an amount
-sum_body : (b : ℕ) (s : List ℕ) (n : ℕ) (more : List Amount) → All ProperAmount more → All Short more → b ∷ s ≡ amounts_text more → n ≡ 0 + total more → BodyRead (b ∷ s) n
+sum_body : (b : ℕ) (s : List ℕ) (n : ℕ) (more : List Amount) → AllByRecursion ProperAmount more → AllByRecursion Short more → b ∷ s ≡ amounts_text more → n ≡ 0 + total more → BodyRead (b ∷ s) n
 sum_body b s n [] proper short text v = absurd (omega (arith, ap length text))
 sum_body b s n (a ∷ more) proper short text v = record { read = amounts a more; proper = proper; short = short; text = sym text; value_is = omega arith }
 

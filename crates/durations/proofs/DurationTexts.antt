@@ -2,7 +2,7 @@
 use Rattle.std.proofs.Common.{◌≡◌, ℕ, ◌+◌, ◌<◌, ◌≤◌, false, eqb, List, [], ◌∷◌, ◌++◌, length, sym, refl, subst, append_assoc, arith, length-append}
 use Rattle.std.proofs.lemmas.Bool.{ne_eqb}
 use Rattle.std.specs.Char.{is_ascii_digit}
-use Rattle.std.specs.List.{AllByRecursion as All}
+use Rattle.std.specs.List.{AllByRecursion}
 use Rattle.durations.specs.DurationGrammar.{Suffix, hour, minute, second, millisecond, microsecond, micro_sign, greek_mu, nanosecond, suffix_text, Number, plain, pointed, digits, digits_text, number_text, Amount, amount_text, amounts_text, Body, nought, amounts, all_amounts, body_text, ProperAmount}
 
 -- no digit goes on
@@ -25,11 +25,11 @@ abbrev pub Unsigned : List ℕ → Type 0
 Unsigned [] = Unit {0}
 Unsigned (b ∷ s) = (eqb b 45 ≡ false) × (eqb b 43 ≡ false)
 
-pub all_front : (xs ys : List ℕ) → All (λ d. d < 10) (xs ++ ys) → All (λ d. d < 10) xs
+pub all_front : (xs ys : List ℕ) → AllByRecursion (λ d. d < 10) (xs ++ ys) → AllByRecursion (λ d. d < 10) xs
 all_front [] ys all = tt
 all_front (x ∷ xs) ys all = (all.0, all_front xs ys all.1)
 
-pub all_back : (xs ys : List ℕ) → All (λ d. d < 10) (xs ++ ys) → All (λ d. d < 10) ys
+pub all_back : (xs ys : List ℕ) → AllByRecursion (λ d. d < 10) (xs ++ ys) → AllByRecursion (λ d. d < 10) ys
 all_back [] ys all = all
 all_back (x ∷ xs) ys all = all_back xs ys all.1
 
@@ -55,7 +55,7 @@ BeginsNumber (b ∷ s) = (eqb b 115 ≡ false) × (eqb b 45 ≡ false) × (eqb b
 digit_begins : (d : ℕ) (s : List ℕ) → d < 10 → BeginsNumber ((48 + d) ∷ s)
 digit_begins d s h = (ne_eqb (48 + d) 115 (λ e. omega arith), ne_eqb (48 + d) 45 (λ e. omega arith), ne_eqb (48 + d) 43 (λ e. omega arith))
 
-number_begins : (n : Number) (rest : List ℕ) → All (λ d. d < 10) (digits n) → 0 < length (digits n) → BeginsNumber (number_text n ++ rest)
+number_begins : (n : Number) (rest : List ℕ) → AllByRecursion (λ d. d < 10) (digits n) → 0 < length (digits n) → BeginsNumber (number_text n ++ rest)
 number_begins (plain []) rest all some = absurd (omega arith)
 number_begins (plain (d ∷ ds)) rest all some = digit_begins d (digits_text ds ++ rest) all.0
 number_begins (pointed [] es) rest all some = (refl, refl, refl)
@@ -73,11 +73,11 @@ begins_unsigned : (s : List ℕ) → BeginsNumber s → Unsigned s
 begins_unsigned [] h = tt
 begins_unsigned (b ∷ s) h = (h.1, h.2)
 
-pub amounts_behind : (more : List Amount) → All ProperAmount more → BehindUnit (amounts_text more)
+pub amounts_behind : (more : List Amount) → AllByRecursion ProperAmount more → BehindUnit (amounts_text more)
 amounts_behind [] proper = tt
 amounts_behind (a ∷ more) proper = begins_behind (amount_text a ++ amounts_text more) (amount_begins a (amounts_text more) proper.0)
 
-pub body_unsigned : (b : Body) → All ProperAmount (all_amounts b) → Unsigned (body_text b)
+pub body_unsigned : (b : Body) → AllByRecursion ProperAmount (all_amounts b) → Unsigned (body_text b)
 body_unsigned nought proper = (refl, refl)
 body_unsigned (amounts a more) proper = begins_unsigned (amounts_text (a ∷ more)) (amount_begins a (amounts_text more) proper.0)
 
@@ -104,6 +104,6 @@ amount_long a proper =
     let u = suffix_some a.suffix in
     omega (arith, length-append (number_text a.numeral) (suffix_text a.suffix))
 
-pub amounts_long : (more : List Amount) → All ProperAmount more → length more + length more ≤ length (amounts_text more)
+pub amounts_long : (more : List Amount) → AllByRecursion ProperAmount more → length more + length more ≤ length (amounts_text more)
 amounts_long [] proper = omega arith
 amounts_long (a ∷ more) proper = omega (arith, length-append (amount_text a) (amounts_text more), amount_long a proper.0, amounts_long more proper.1)

@@ -3,7 +3,7 @@ use Rattle.std.proofs.Common.{◌≡◌, ℕ, ◌+◌, ◌<◌, true, false, con
 use Rattle.std.proofs.lemmas.Bool.{ne_eqb, eqb-false}
 use Rattle.std.proofs.lemmas.Bool.Decides.{nat_tests}
 use Rattle.std.specs.Char.{is_ascii_digit}
-use Rattle.std.specs.List.{AllByRecursion as All}
+use Rattle.std.specs.List.{AllByRecursion}
 use Rattle.durations.specs.Duration.{begins}
 use Rattle.durations.specs.DurationGrammar.{Suffix, hour, minute, second, millisecond, microsecond, micro_sign, greek_mu, nanosecond, suffix_text, Number, plain, pointed, digits, digits_text, number_text, Amount, amount_text, amounts_text, Body, nought, amounts, all_amounts, body_text, Mark, bare, plus, minus, mark_text, Reading, spell, ProperAmount, Proper}
 use Rattle.durations.proofs.DurationOptions.{some_same}
@@ -23,7 +23,7 @@ digit_goes_on d s (b ∷ t) small behind e =
     let digit : is_ascii_digit b ≡ true = grind (arith, nat_tests) in
     let z : ◌≡◌ {A = ℕ} 0 1 = ap (λ c. cond c 1 0) (sym behind ∙ digit) in absurd (omega arith)
 
-digits_same : (ds es s t : List ℕ) → All (λ d. d < 10) ds → All (λ d. d < 10) es → BehindDigits s → BehindDigits t → digits_text ds ++ s ≡ digits_text es ++ t → (ds ≡ es) × (s ≡ t)
+digits_same : (ds es s t : List ℕ) → AllByRecursion (λ d. d < 10) ds → AllByRecursion (λ d. d < 10) es → BehindDigits s → BehindDigits t → digits_text ds ++ s ≡ digits_text es ++ t → (ds ≡ es) × (s ≡ t)
 digits_same [] [] s t p q bs bt e = (refl, e)
 digits_same [] (d ∷ es) s t p q bs bt e = digit_goes_on d (digits_text es ++ t) s q.0 bs (sym e)
 digits_same (d ∷ ds) [] s t p q bs bt e = digit_goes_on d (digits_text ds ++ s) t p.0 bt e
@@ -41,7 +41,7 @@ point_goes_on : {X : Type 0} (s t : List ℕ) → BehindNumber s → s ≡ 46 �
 point_goes_on [] t behind e = absurd (omega (arith, ap length e))
 point_goes_on (b ∷ s) t behind e = other_byte b 46 s t behind.1 e
 
-number_same : (n m : Number) (s t : List ℕ) → All (λ d. d < 10) (digits n) → All (λ d. d < 10) (digits m) → BehindNumber s → BehindNumber t → number_text n ++ s ≡ number_text m ++ t → (n ≡ m) × (s ≡ t)
+number_same : (n m : Number) (s t : List ℕ) → AllByRecursion (λ d. d < 10) (digits n) → AllByRecursion (λ d. d < 10) (digits m) → BehindNumber s → BehindNumber t → number_text n ++ s ≡ number_text m ++ t → (n ≡ m) × (s ≡ t)
 number_same (plain ds) (plain es) s t p q bs bt e = let r = digits_same ds es s t p q (behind_digits s bs) (behind_digits t bt) e in (ap plain r.0, r.1)
 number_same (plain ds) (pointed es fs) s t p q bs bt e =
     let r = digits_same ds es s (46 ∷ digits_text fs ++ t) p (all_front es fs q) (behind_digits s bs) refl (e ∙ append_assoc (digits_text es) (46 ∷ digits_text fs) t) in
@@ -91,7 +91,7 @@ amount_same a b s t p q bs bt e =
     let u = suffix_same a.suffix b.suffix s t bs bt n.1 in
     ((λ i. record { numeral = n.0 i; suffix = u.0 i }), u.1)
 
-amounts_same : (xs ys : List Amount) → All ProperAmount xs → All ProperAmount ys → amounts_text xs ≡ amounts_text ys → xs ≡ ys
+amounts_same : (xs ys : List Amount) → AllByRecursion ProperAmount xs → AllByRecursion ProperAmount ys → amounts_text xs ≡ amounts_text ys → xs ≡ ys
 amounts_same [] [] p q e = refl
 amounts_same [] (b ∷ ys) p q e = absurd (omega (arith, ap length e, amounts_long (b ∷ ys) q))
 amounts_same (a ∷ xs) [] p q e = absurd (omega (arith, ap length e, amounts_long (a ∷ xs) p))
@@ -100,7 +100,7 @@ amounts_same (a ∷ xs) (b ∷ ys) p q e =
     let more = amounts_same xs ys p.1 q.1 r.1 in
     λ i. r.0 i ∷ more i
 
-body_same : (x y : Body) → All ProperAmount (all_amounts x) → All ProperAmount (all_amounts y) → body_text x ≡ body_text y → x ≡ y
+body_same : (x y : Body) → AllByRecursion ProperAmount (all_amounts x) → AllByRecursion ProperAmount (all_amounts y) → body_text x ≡ body_text y → x ≡ y
 body_same nought nought p q e = refl
 body_same nought (amounts b ys) p q e = absurd (omega (arith, ap length e, amounts_long (b ∷ ys) q))
 body_same (amounts a xs) nought p q e = absurd (omega (arith, ap length e, amounts_long (a ∷ xs) p))

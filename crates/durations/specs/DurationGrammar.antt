@@ -1,7 +1,7 @@
 -- What a duration is: its parts, the text that spells them, and the time that they mean.
 use Rattle.std.specs.Prelude.{◌≡◌, ℕ, ◌+◌, ◌*◌, ◌/◌, ◌^◌, ◌<◌, ◌≤◌, List, [], ◌∷◌, ◌++◌, map, length, ℤ, pos, neg_ℤ, Some, codes}
 use Rattle.std.specs.Int.Digits.{number_from_digits}
-use Rattle.std.specs.List.{AllByRecursion as All}
+use Rattle.std.specs.List.{AllByRecursion}
 use Rattle.durations.specs.Duration.{duration}
 
 -- a unit as it is written: microseconds have an ASCII spelling, one with the micro sign and one with the Greek letter
@@ -140,11 +140,11 @@ value r = marked r.mark (total (all_amounts r.body))
 
 -- each digit is below ten, and each amount has one
 abbrev pub ProperAmount : Amount → Type 0
-ProperAmount a = All (λ d. d < 10) (digits a.numeral) × (0 < length (digits a.numeral))
+ProperAmount a = AllByRecursion (λ d. d < 10) (digits a.numeral) × (0 < length (digits a.numeral))
 
 -- a duration that can be written
 abbrev pub Proper : Reading → Type 0
-Proper r = All ProperAmount (all_amounts r.body)
+Proper r = AllByRecursion ProperAmount (all_amounts r.body)
 
 -- an amount has at most 15 digits
 abbrev pub Short : Amount → Type 0
@@ -152,7 +152,7 @@ Short a = length (digits a.numeral) ≤ 15
 
 -- within the bounds: the sum is below 2^63, and so is each amount, which is no more than the sum
 abbrev pub Within : Reading → Type 0
-Within r = All Short (all_amounts r.body) × (total (all_amounts r.body) < 2 ^ 63)
+Within r = AllByRecursion Short (all_amounts r.body) × (total (all_amounts r.body) < 2 ^ 63)
 
 -- s spells a duration within the bounds, of z nanoseconds
 pub record Spells (s : List ℕ) (z : ℤ) : Type 0 where

@@ -1,4 +1,6 @@
 // How a field's name is written as an identifier of a rule.
+#![tactic(auto)]
+
 ghost use Rattle.escaping.specs.Laws.{NoCollision, WorkedNames};
 
 mod compare;

@@ -6,13 +6,16 @@ use writer::BufferShort;
 fn full_and_short_buffers(rt: HostRuntime) {
     let mut out = [7u8; 9];
     assert_eq!(rt; escape_field_name(b"a.b", &mut out), Ok(9));
-    assert_eq!(rt; &out[0..9], b"a__dot__b");
+    assert_eq!(rt; &out[0..9], b"a__dot__b".as_slice());
     let mut short = [7u8; 8];
     assert_eq!(rt; escape_field_name(b"a.b", &mut short), Err(BufferShort));
-    assert_eq!(rt; &short[0..8], b"\x07\x07\x07\x07\x07\x07\x07\x07");
+    assert_eq!(rt;
+        &short[0..8],
+        b"\x07\x07\x07\x07\x07\x07\x07\x07".as_slice()
+    );
     let mut long = [7u8; 10];
     assert_eq!(rt; escape_field_name(b"let", &mut long), Ok(7));
-    assert_eq!(rt; &long[0..10], b"__let__\x07\x07\x07");
+    assert_eq!(rt; &long[0..10], b"__let__\x07\x07\x07".as_slice());
 }
 
 #[test]

@@ -1,4 +1,6 @@
 // Reads names, a line each, and prints of each its escape, the escape's length, and how it compares with the escape on the line before.
+#![tactic(auto)]
+
 use anyhow::anyhow;
 use escaping::{compare_escaped, escape_field_name, escaped_len};
 use std::alloc::Global;

@@ -1,4 +1,6 @@
 // What holds things in memory that is taken once: a list with room for so many elements, and a short text by value.
+#![tactic(auto)]
+
 pub mod list;
 pub mod refusal;
 pub mod text;
@@ -15,10 +17,10 @@ mod tests {
         let mut list: FixedList<u8, 3> = FixedList::new(rt.alloc())?;
         list.push(5)?;
         assert_eq!(rt; list.extend_from_slice(&[6, 7, 8]), Err(Full));
-        assert_eq!(rt; list.as_slice(), &[5]);
+        assert_eq!(rt; list.as_slice(), [5].as_slice());
         list.extend_from_slice(&[6, 7])?;
         assert_eq!(rt; list.push(8), Err(Full));
-        assert_eq!(rt; list.as_slice(), &[5, 6, 7]);
+        assert_eq!(rt; list.as_slice(), [5, 6, 7].as_slice());
         Ok(())
     }
 

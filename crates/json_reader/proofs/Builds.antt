@@ -3,8 +3,8 @@ use Rattle.std.proofs.Common.{◌≡◌, ℕ, ◌+◌, ◌<◌, ◌≤◌, min, 
 use lib.Utf8.{encode, scalar}
 use Rattle.fixed.specs.Listed.{last}
 use Rattle.fixed.specs.Room.{extended, fits}
-use Rattle.json.specs.declared.parts.Source.{Source}
-use Rattle.json.specs.declared.table.Entry.{Entry}
+use Rattle.json_values.specs.declared.parts.Source.{Source}
+use Rattle.json_values.specs.declared.table.Entry.{Entry}
 use Rattle.json_scanner.specs.Bytes.{then}
 use Rattle.json_scanner.specs.Machine.{Control, turned, left_with, finish}
 use Rattle.json_scanner.specs.declared.modes.Act.{Act}

@@ -1,12 +1,12 @@
 -- What is built of the frames.
 use Rattle.std.proofs.Common.{◌≡◌, ℕ, zero, suc, ◌+◌, ◌-◌, ◌<◌, ◌≤◌, Bool, true, false, cond, List, [], ◌∷◌, ◌++◌, map, reverse, length, get_or, take, drop, sym, refl, ap, ◌∙◌, subst, arith}
-use Rattle.json.proofs.Rows.{rows_of-length, rows_stay, rows_push}
-use Rattle.json.specs.declared.parts.Part.{Part}
-use Rattle.json.specs.declared.parts.Source.{Source}
-use Rattle.json.specs.declared.table.Cell.{Cell}
-use Rattle.json.specs.declared.table.Entry.{Entry}
-use Rattle.json.specs.declared.table.Span.{Span}
-use Rattle.json.specs.Meaning.{Row, no_row, no_entry, part_of, children, meaning, row_of, rows_of}
+use Rattle.json_values.proofs.Rows.{rows_of-length, rows_stay, rows_push}
+use Rattle.json_values.specs.declared.parts.Part.{Part}
+use Rattle.json_values.specs.declared.parts.Source.{Source}
+use Rattle.json_values.specs.declared.table.Cell.{Cell}
+use Rattle.json_values.specs.declared.table.Entry.{Entry}
+use Rattle.json_values.specs.declared.table.Span.{Span}
+use Rattle.json_values.specs.Meaning.{Row, no_row, no_entry, part_of, children, meaning, row_of, rows_of}
 use Rattle.json_scanner.specs.Grammar.{Tree, Members}
 use Rattle.json_scanner.specs.Machine.{Frame, bare, sole, items, fields, field, kind, kinds, put, naming}
 use Rattle.json_scanner.specs.declared.modes.Container.{Container}

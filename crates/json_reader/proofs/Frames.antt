@@ -1,6 +1,6 @@
 -- What the scanner's frames have of rows, and where they may stand.
 use Rattle.std.proofs.Common.{ℕ, ◌<◌, Bool, List, [], ◌∷◌, ◌++◌}
-use Rattle.json.specs.Meaning.{Row}
+use Rattle.json_values.specs.Meaning.{Row}
 use Rattle.json_scanner.specs.Grammar.{Members}
 use Rattle.json_scanner.specs.Grammar as written
 use Rattle.json_scanner.specs.Machine.{Frame, bare, sole, items, fields, field}

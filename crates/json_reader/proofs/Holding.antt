@@ -4,13 +4,13 @@ use lib.Utf8.{encode, scalar}
 use Rattle.fixed.proofs.Lists.{last_push}
 use Rattle.fixed.specs.Listed.{last}
 use Rattle.fixed.specs.Room.{extended, fits}
-use Rattle.json.specs.declared.parts.Part.{Part}
-use Rattle.json.specs.declared.parts.Source.{Source}
-use Rattle.json.specs.declared.table.Cell.{Cell}
-use Rattle.json.specs.declared.table.Cell.TheVariants as cell
-use Rattle.json.specs.declared.table.Entry.{Entry}
-use Rattle.json.specs.Meaning.{Row, no_row, no_entry, items_of, members_of, meaning, row_of, rows_of}
-use Rattle.json.specs.Value as value
+use Rattle.json_values.specs.declared.parts.Part.{Part}
+use Rattle.json_values.specs.declared.parts.Source.{Source}
+use Rattle.json_values.specs.declared.table.Cell.{Cell}
+use Rattle.json_values.specs.declared.table.Cell.TheVariants as cell
+use Rattle.json_values.specs.declared.table.Entry.{Entry}
+use Rattle.json_values.specs.Meaning.{Row, no_row, no_entry, items_of, members_of, meaning, row_of, rows_of}
+use Rattle.json_values.specs.Value as value
 use Rattle.json_scanner.specs.Grammar.{Tree, Trees, Members}
 use Rattle.json_scanner.specs.Grammar as written
 use Rattle.json_scanner.specs.Holds.{Room, Counts}

@@ -1,8 +1,8 @@
 -- Members are entered where their keys belong, so that the value of every tree is ordered.
 use Rattle.std.proofs.Common.{◌≡◌, ℕ, ◌^◌, Bool, true, false, cond, ltb, leb, List, [], ◌∷◌, ◌++◌, pos, neg_ℤ, Ordering, Less, Equal, Greater, refl, ap, ◌∙◌}
-use Rattle.json.specs.Meaning.{Row, items_of, members_of}
-use Rattle.json.specs.Ordered.{Before, Ordered, OrderedItems, OrderedMembers}
-use Rattle.json.specs.Value as value
+use Rattle.json_values.specs.Meaning.{Row, items_of, members_of}
+use Rattle.json_values.specs.Ordered.{Before, Ordered, OrderedItems, OrderedMembers}
+use Rattle.json_values.specs.Value as value
 use Rattle.json_scanner.specs.Grammar.{Trees, Members}
 use Rattle.json_scanner.specs.Grammar as written
 use Rattle.json_reader.specs.Law.{ReadsOrdered}

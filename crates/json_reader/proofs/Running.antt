@@ -1,11 +1,11 @@
 -- What is built of a text, and the value that the machine reads.
 use Rattle.std.proofs.Common.{◌≡◌, ℕ, zero, suc, ◌+◌, ◌-◌, ◌<◌, ◌≤◌, Bool, true, false, cond, ltb, leb, List, [], ◌∷◌, ◌++◌, map, length, get_or, take, drop, pos, neg_ℤ, Some, None, Ok, Err, Option, Result, sym, refl, ap, ◌∙◌, subst, arith}
-use Rattle.json.specs.declared.parts.Source.{Source}
-use Rattle.json.specs.declared.table.Cell.{Cell}
-use Rattle.json.specs.declared.table.Cell.TheVariants as cell
-use Rattle.json.specs.declared.table.Entry.{Entry}
-use Rattle.json.specs.Meaning.{Row, no_row, meaning, row_of, rows_of}
-use Rattle.json.specs.Value as value
+use Rattle.json_values.specs.declared.parts.Source.{Source}
+use Rattle.json_values.specs.declared.table.Cell.{Cell}
+use Rattle.json_values.specs.declared.table.Cell.TheVariants as cell
+use Rattle.json_values.specs.declared.table.Entry.{Entry}
+use Rattle.json_values.specs.Meaning.{Row, no_row, meaning, row_of, rows_of}
+use Rattle.json_values.specs.Value as value
 use Rattle.json_scanner.proofs.Cases.{by_cond}
 use Rattle.json_scanner.proofs.Roomy.{moved-roomy, Roomy}
 use Rattle.json_scanner.specs.Grammar.{Tree}

@@ -1,11 +1,11 @@
 -- A whole text.
 use Rattle.std.proofs.Common.{◌≡◌, ℕ, ◌+◌, ◌<◌, ◌≤◌, Bool, true, false, cond, ◌&&◌, leb, ◌⊎◌, List, [], ◌∷◌, ◌++◌, length, get_or, take, drop, Some, None, Ok, Err, Option, Result, sym, refl, ap, ◌∙◌, subst, inl, inr, arith}
 use Rattle.fixed.specs.Room.{extended}
-use Rattle.json.proofs.Rows.{rows_of-length, rows_push, rows_of-grown, meanings_stay}
-use Rattle.json.specs.Laws.{AllInside, Grown}
-use Rattle.json.specs.Meaning.{Row, no_row, meaning, row_of, rows_of, value_at}
-use Rattle.json.specs.declared.parts.Source.{Source}
-use Rattle.json.specs.declared.table.Entry.{Entry}
+use Rattle.json_values.proofs.Rows.{rows_of-length, rows_push, rows_of-grown, meanings_stay}
+use Rattle.json_values.specs.Laws.{AllInside, Grown}
+use Rattle.json_values.specs.Meaning.{Row, no_row, meaning, row_of, rows_of, value_at}
+use Rattle.json_values.specs.declared.parts.Source.{Source}
+use Rattle.json_values.specs.declared.table.Entry.{Entry}
 use Rattle.json_scanner.specs.Grammar.{Tree}
 use Rattle.json_scanner.specs.Bytes.{then}
 use Rattle.json_scanner.specs.Machine.{Control, State, run, start, control, turned, finish, fresh}

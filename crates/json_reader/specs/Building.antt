@@ -3,13 +3,13 @@ use Rattle.std.specs.Prelude.{ℕ, ◌+◌, ◌-◌, ◌^◌, Bool, true, false,
 use Rattle.std.proofs.Math.Utf8.{encode, scalar}
 use Rattle.fixed.specs.Listed.{last}
 use Rattle.fixed.specs.Room.{extended}
-use Rattle.json.specs.Meaning.{no_entry}
-use Rattle.json.specs.declared.parts.Part.{Part}
-use Rattle.json.specs.declared.parts.Source.{Source}
-use Rattle.json.specs.declared.table.Cell.{Cell}
-use Rattle.json.specs.declared.table.Cell.TheVariants as cell
-use Rattle.json.specs.declared.table.Entry.{Entry}
-use Rattle.json.specs.declared.table.Span.{Span}
+use Rattle.json_values.specs.Meaning.{no_entry}
+use Rattle.json_values.specs.declared.parts.Part.{Part}
+use Rattle.json_values.specs.declared.parts.Source.{Source}
+use Rattle.json_values.specs.declared.table.Cell.{Cell}
+use Rattle.json_values.specs.declared.table.Cell.TheVariants as cell
+use Rattle.json_values.specs.declared.table.Entry.{Entry}
+use Rattle.json_values.specs.declared.table.Span.{Span}
 use Rattle.json_scanner.specs.Bytes.{then}
 use Rattle.json_scanner.specs.Machine.{Control, turned, finish}
 use Rattle.json_scanner.specs.declared.modes.Act.{Act}

@@ -1,10 +1,10 @@
 -- What the answer of `read` says of the text, by the scanner's machine and its values.
 use Rattle.std.specs.Prelude.{◌≡◌, ℕ, ◌+◌, ◌<◌, true, false, ◌⊎◌, List, length, take, Ok, Err, Result}
-use Rattle.json.specs.Laws.{AllInside, Grown}
-use Rattle.json.specs.Meaning.{value_at}
-use Rattle.json.specs.Ordered.{Ordered}
-use Rattle.json.specs.declared.parts.Source.{Source}
-use Rattle.json.specs.declared.table.Entry.{Entry}
+use Rattle.json_values.specs.Laws.{AllInside, Grown}
+use Rattle.json_values.specs.Meaning.{value_at}
+use Rattle.json_values.specs.Ordered.{Ordered}
+use Rattle.json_values.specs.declared.parts.Source.{Source}
+use Rattle.json_values.specs.declared.table.Entry.{Entry}
 use Rattle.json_reader.specs.Reading.{roomy}
 use Rattle.json_reader.specs.Values.{value_of}
 use Rattle.json_reader.specs.declared.fault.Fault.{Fault}

@@ -1,8 +1,8 @@
 -- What is built of a text that is not at its end.
 use Rattle.std.specs.Prelude.{ℕ, List}
 use Rattle.fixed.specs.Listed.{listed}
-use Rattle.json.specs.declared.parts.Part.{Part}
-use Rattle.json.specs.declared.table.Entry.{Entry}
+use Rattle.json_values.specs.declared.parts.Part.{Part}
+use Rattle.json_values.specs.declared.table.Entry.{Entry}
 use Rattle.json_reader.specs.declared.builder.Builder.{Builder}
 use Rattle.json_reader.specs.declared.builder.Open.{Open}
 

@@ -1,9 +1,9 @@
 -- What reading a text leaves.
 use Rattle.std.specs.Prelude.{◌≡◌, ℕ, ◌+◌, ◌<◌, ◌≤◌, Bool, true, false, cond, ◌&&◌, List, [], ◌∷◌, ◌++◌, length, Some, None, Ok, Err, Option, Result, nat_le}
 use Rattle.fixed.specs.Room.{extended}
-use Rattle.json.specs.Meaning.{value_at}
-use Rattle.json.specs.declared.parts.Source.{Source}
-use Rattle.json.specs.declared.table.Entry.{Entry}
+use Rattle.json_values.specs.Meaning.{value_at}
+use Rattle.json_values.specs.declared.parts.Source.{Source}
+use Rattle.json_values.specs.declared.table.Entry.{Entry}
 use Rattle.json_reader.specs.Building.{Built, blank, building}
 use Rattle.json_reader.specs.declared.fault.Fault.{Fault}
 use Rattle.json_scanner.specs.Machine.{fresh}

@@ -2,9 +2,9 @@
 use Rattle.std.specs.Prelude.{ℕ, ◌^◌, Bool, true, false, cond, List, [], ◌∷◌, ◌++◌, pos, neg_ℤ, nat_le, nat_lt}
 use Rattle.std.specs.declared.cmp.Ordering.TheVariants.{Less, Equal, Greater}
 use Rattle.std.specs.declared.cmp.Ordering.{Ordering}
-use Rattle.json.specs.Meaning.{Row, items_of, members_of}
-use Rattle.json.specs.Value.{Value}
-use Rattle.json.specs.Value as value
+use Rattle.json_values.specs.Meaning.{Row, items_of, members_of}
+use Rattle.json_values.specs.Value.{Value}
+use Rattle.json_values.specs.Value as value
 use Rattle.json_scanner.specs.Grammar.{Tree, Trees, Members}
 use Rattle.json_scanner.specs.Grammar as written
 use Rattle.order.specs.Bytes.{compare_bytes}

@@ -1,6 +1,6 @@
 // What the scanner's acts do to what is built.
 ghost use Rattle.fixed.specs.Listed.{last, listed};
-ghost use Rattle.json.specs.Stored.{written};
+ghost use Rattle.json_values.specs.Stored.{written};
 ghost use Rattle.json_reader.specs.Building.{closed_notes, closed_table, container_cell, moved_in, notes_after, table_after, text_after, wrapped_up, numbered};
 ghost use Rattle.json_reader.specs.Notes.{notes};
 ghost use Rattle.std.specs.Prelude.{◌≡◌, ◌≤◌, length, if◌then◌else◌};
@@ -10,9 +10,9 @@ ghost use Rattle.fixed.specs.Room.{extended};
 use super::bench::Bench;
 use super::builder::{Builder, Open};
 use super::sift::move_members;
-use json::parts::Source;
-use json::store::Store;
-use json::table::{Cell, Entry, Span, Table};
+use json_values::parts::Source;
+use json_values::store::Store;
+use json_values::table::{Cell, Entry, Span, Table};
 use json_scanner::modes::{Act, Container, Step};
 
 fn container_cell(container: Container, span: Span) -> Cell

@@ -2,7 +2,7 @@
 ghost use Rattle.json_reader.specs.Flaws.{flaw_number, flaw_place};
 ghost use Rattle.std.specs.Prelude.{◌≡◌};
 
-use json::parts::Source;
+use json_values::parts::Source;
 use json_scanner::modes::Fault as Flaw;
 
 // The text, and its flaw.

@@ -1,6 +1,6 @@
 // A reader takes its memory when it is made, and then reads texts into stores and tables.
 ghost use Rattle.fixed.specs.Listed.{listed};
-ghost use Rattle.json.specs.Stored.{written};
+ghost use Rattle.json_values.specs.Stored.{written};
 ghost use Rattle.json_reader.specs.Building.{building};
 ghost use Rattle.json_reader.specs.Law.{ReadsAs, ReadsOrdered};
 ghost use Rattle.json_reader.specs.Notes.{notes};
@@ -11,9 +11,9 @@ ghost use Rattle.std.specs.Prelude.{◌≡◌, length, take, Ok, Err, MatchResul
 use super::bench::Bench;
 use super::builder::{Builder, VALUES};
 use super::fault::Fault;
-use json::parts::Source;
-use json::store::{ROOM, Store};
-use json::table::{ENTRIES, Table};
+use json_values::parts::Source;
+use json_values::store::{ROOM, Store};
+use json_values::table::{ENTRIES, Table};
 use json_scanner::Scanner;
 use json_scanner::modes::Fault as Flaw;
 use std::alloc::{AllocError, Global};

@@ -1,9 +1,9 @@
 // Texts that are read, and what they leave.
 use super::Reader;
-use json::held_text;
-use json::parts::Source;
-use json::store::Store;
-use json::table::{Cell, Entry, Table};
+use json_values::held_text;
+use json_values::parts::Source;
+use json_values::store::Store;
+use json_values::table::{Cell, Entry, Table};
 use std::test::Fail;
 
 const HALF: u64 = 0x8000_0000_0000_0000;

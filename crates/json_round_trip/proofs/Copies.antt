@@ -1,9 +1,9 @@
 -- A copy, from what reading the text leaves.
 use Rattle.std.proofs.Common.{◌≡◌, ℕ, List, Ok, Err, Result, sym, ap, ◌∙◌, subst, arith}
-use Rattle.json.specs.Value.{Value}
-use Rattle.json.specs.declared.parts.Source.{Source}
-use Rattle.json.specs.declared.table.Entry.{Entry}
-use Rattle.json.specs.Meaning.{value_at}
+use Rattle.json_values.specs.Value.{Value}
+use Rattle.json_values.specs.declared.parts.Source.{Source}
+use Rattle.json_values.specs.declared.table.Entry.{Entry}
+use Rattle.json_values.specs.Meaning.{value_at}
 use Rattle.json_reader.specs.Reading.{outcome, reading}
 use Rattle.json_reader.specs.declared.fault.Fault.{Fault}
 use Rattle.json_round_trip.proofs.Trips.{reads_back}

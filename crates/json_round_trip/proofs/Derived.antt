@@ -1,7 +1,7 @@
 -- What a text's derivation says of its value: that it can be read, its limits, and that what is written of it is no longer.
 use Rattle.std.proofs.Common.{◌≡◌, ℕ, zero, suc, ◌+◌, ◌-◌, ◌*◌, ◌/◌, ◌%◌, ◌^◌, ◌<◌, ◌≤◌, Bool, true, false, eqb, ltb, leb, List, [], ◌∷◌, ◌++◌, length, pos, neg_ℤ, decimal, refl, ap, arith}
-use Rattle.json.specs.Meaning.{Row, items_of, members_of}
-use Rattle.json.specs.Value.{Value, null, bool, int, uint, text, list, map}
+use Rattle.json_values.specs.Meaning.{Row, items_of, members_of}
+use Rattle.json_values.specs.Value.{Value, null, bool, int, uint, text, list, map}
 use Rattle.json_reader.specs.Values.{entered, item_rows, member_rows, number_of, value_of}
 use Rattle.json_round_trip.proofs.Characters.{chars_spelt}
 use Rattle.json_round_trip.proofs.Measures.{entered_measures, entered_readable, items_text_length, members_text_length, no_items_length, no_members_length, pushed}

@@ -1,7 +1,7 @@
 -- How deep, how many and how long the rows of items and members are.
 use Rattle.std.proofs.Common.{◌≡◌, ℕ, suc, ◌+◌, ◌-◌, ◌≤◌, max, List, [], ◌∷◌, ◌++◌, length, Ordering, Less, Equal, Greater, refl, ap, ◌∙◌, arith}
-use Rattle.json.specs.Meaning.{Row, items_of, members_of}
-use Rattle.json.specs.Value.{Value, Items, Members, item, member, no_item, no_member}
+use Rattle.json_values.specs.Meaning.{Row, items_of, members_of}
+use Rattle.json_values.specs.Value.{Value, Items, Members, item, member, no_item, no_member}
 use Rattle.json_reader.proofs.Ordering.{before_all, before_same, entered_before}
 use Rattle.json_reader.specs.Values.{entered, entered_by}
 use Rattle.json_round_trip.specs.Readable.{Readable, ReadableItems, ReadableMembers, count, items_count, items_nesting, members_count, members_nesting, nesting}

@@ -1,8 +1,8 @@
 -- A value that can be read is the value of its tree, which is within the limits where the value is.
 use Rattle.std.proofs.Common.{◌≡◌, ℕ, suc, ◌+◌, ◌^◌, ◌≤◌, false, eqb, ltb, leb, List, [], ◌∷◌, ◌++◌, ℤ, pos, negsuc, Less, sym, refl, ap, ◌∙◌, subst, append_assoc, append-nil, arith}
-use Rattle.json.specs.Meaning.{Row, items_of, members_of}
-use Rattle.json.specs.Ordered.{Before}
-use Rattle.json.specs.Value.{Value, Items, Members, null, bool, int, uint, text, list, map, no_item, item, no_member, member}
+use Rattle.json_values.specs.Meaning.{Row, items_of, members_of}
+use Rattle.json_values.specs.Ordered.{Before}
+use Rattle.json_values.specs.Value.{Value, Items, Members, null, bool, int, uint, text, list, map, no_item, item, no_member, member}
 use Rattle.json_reader.specs.Values.{entered, entered_by, item_rows, member_rows, value_of}
 use Rattle.json_round_trip.specs.Readable.{Readable, ReadableItems, ReadableMembers, count, items_count, items_nesting, members_count, members_nesting, nesting}
 use Rattle.json_scanner.specs.Grammar.{Trees, nil, snoc, over, overs, over_members, size, sizes, member_sizes}

@@ -1,7 +1,7 @@
 -- The laws of reading back.
 use Rattle.std.proofs.Common.{◌≡◌, ℕ, ◌+◌, true, leb, List, [], length, Ok, Err, Result, sym, refl, ap, ◌∙◌, subst, ⊎_elim, arith}
-use Rattle.json.specs.declared.parts.Source.{Source}
-use Rattle.json.specs.declared.table.Entry.{Entry}
+use Rattle.json_values.specs.declared.parts.Source.{Source}
+use Rattle.json_values.specs.declared.table.Entry.{Entry}
 use Rattle.json_reader.proofs.Whole.{read_law}
 use Rattle.json_reader.specs.Law.{ReadsAs, Refused}
 use Rattle.json_reader.specs.Reading.{Outcome, outcome, reading, roomy}

@@ -1,9 +1,9 @@
 -- What a copy by way of the compact text leaves.
 use Rattle.std.specs.Prelude.{◌≡◌, ℕ, true, List, Ok, Err, Result}
-use Rattle.json.specs.Meaning.{value_at}
-use Rattle.json.specs.Value.{Value}
-use Rattle.json.specs.declared.parts.Source.{Source}
-use Rattle.json.specs.declared.table.Entry.{Entry}
+use Rattle.json_values.specs.Meaning.{value_at}
+use Rattle.json_values.specs.Value.{Value}
+use Rattle.json_values.specs.declared.parts.Source.{Source}
+use Rattle.json_values.specs.declared.table.Entry.{Entry}
 use Rattle.json_reader.specs.Reading.{outcome, reading, roomy}
 use Rattle.json_reader.specs.declared.fault.Fault.{Fault}
 use Rattle.json_round_trip.specs.RoundTrip.{InLimits}

@@ -1,7 +1,7 @@
 -- The values that a text can be read as.
 use Rattle.std.specs.Prelude.{ℕ, suc, ◌+◌, ◌^◌, ◌<◌, ◌≤◌, max}
-use Rattle.json.specs.Ordered.{Before}
-use Rattle.json.specs.Value.{Value, Items, Members, null, bool, int, uint, text, list, map, no_item, item, no_member, member}
+use Rattle.json_values.specs.Ordered.{Before}
+use Rattle.json_values.specs.Value.{Value, Items, Members, null, bool, int, uint, text, list, map, no_item, item, no_member, member}
 use Rattle.json_writer.specs.Back.{Letters, Small}
 
 -- an int within 64 bits, a uint that is too large for an int, texts of characters, members in ascending order of their keys

@@ -1,9 +1,9 @@
 -- What was written is read back, and whatever was read can be written and read again.
 use Rattle.std.specs.Prelude.{◌≡◌, ℕ, ◌≤◌, true, List, [], length, Ok}
-use Rattle.json.specs.Meaning.{value_at}
-use Rattle.json.specs.Value.{Value}
-use Rattle.json.specs.declared.parts.Source.{Source}
-use Rattle.json.specs.declared.table.Entry.{Entry}
+use Rattle.json_values.specs.Meaning.{value_at}
+use Rattle.json_values.specs.Value.{Value}
+use Rattle.json_values.specs.declared.parts.Source.{Source}
+use Rattle.json_values.specs.declared.table.Entry.{Entry}
 use Rattle.json_reader.specs.Law.{Taken}
 use Rattle.json_reader.specs.Reading.{Outcome, outcome, reading, roomy}
 use Rattle.json_reader.specs.Values.{value_of}

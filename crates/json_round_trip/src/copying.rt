@@ -1,13 +1,13 @@
 // A value of one table, written and read into another.
 ghost use Rattle.fixed.specs.Listed.{listed};
-ghost use Rattle.json.specs.Meaning.{value_at};
-ghost use Rattle.json.specs.Stored.{texts_of, written};
+ghost use Rattle.json_values.specs.Meaning.{value_at};
+ghost use Rattle.json_values.specs.Stored.{texts_of, written};
 ghost use Rattle.json_round_trip.specs.Copied.{Copies, Leaves, no_memory, refused};
 ghost use Rattle.std.specs.Prelude.{◌≡◌};
 
-use json::parts::Source;
-use json::store::Store;
-use json::table::Table;
+use json_values::parts::Source;
+use json_values::store::Store;
+use json_values::table::Table;
 use json_reader::Reader;
 use json_reader::fault::Fault;
 use json_writer::{View, push_compact};

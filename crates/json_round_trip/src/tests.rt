@@ -1,8 +1,8 @@
 // A text that is read, copied and written.
 use super::copy_value;
-use json::parts::Source;
-use json::store::Store;
-use json::table::Table;
+use json_values::parts::Source;
+use json_values::store::Store;
+use json_values::table::Table;
 use json_reader::Reader;
 use json_writer::{View, push_compact};
 use std::test::Fail;

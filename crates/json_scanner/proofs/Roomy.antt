@@ -1,5 +1,5 @@
 -- What a move opens or begins has room.
-use Rattle.std.proofs.Common.{◌≡◌, ℕ, ◌-◌, ◌<◌, eqb, leb, Some, None, Ok, Err, Option, sym, subst}
+use Rattle.std.proofs.Common.{◌≡◌, ℕ, ◌<◌, eqb, leb, Some, None, Ok, Err, Option, sym, subst}
 use Rattle.std.specs.Char.{is_ascii_digit}
 use Rattle.json_scanner.specs.declared.modes.Container.{Container}
 use Rattle.json_scanner.specs.declared.modes.Container.TheVariants as container

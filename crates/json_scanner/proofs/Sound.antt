@@ -1,5 +1,5 @@
 -- What is accepted is a text, and what is read begins one.
-use Rattle.std.proofs.Common.{◌≡◌, ℕ, ◌+◌, ◌-◌, leb, List, [], ◌∷◌, ◌++◌, length, Ok, Err, Result, sym, refl, ap, subst, append_assoc, append-nil, arith, length-append}
+use Rattle.std.proofs.Common.{◌≡◌, ℕ, ◌+◌, leb, List, [], ◌∷◌, ◌++◌, length, Ok, Err, Result, sym, refl, ap, subst, append_assoc, append-nil, arith, length-append}
 use Rattle.json_scanner.specs.declared.modes.Word.{Word}
 use Rattle.json_scanner.specs.declared.modes.Word.TheVariants as word
 use Rattle.json_scanner.specs.declared.modes.Figures.{Figures}

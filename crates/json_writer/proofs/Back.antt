@@ -7,7 +7,7 @@ use Rattle.std.specs.Fmt.{signed_decimal}
 use Rattle.std.proofs.lemmas.Str.Ascii.{encode_ascii}
 use Rattle.std.proofs.lemmas.Fmt.{decimal_by_steps}
 use Rattle.std.proofs.lemmas.Bool.{and_from, and_left, and_parts, cases_lt, eqb-true, false≢true, le-leb, leb-true, lt-leb, lt-ltb, le-ltb, ltb-true, ne_eqb, not-true, or_from, or_parts, or_right}
-use Rattle.json.specs.Value.{Value, Items, Members, null, bool, int, uint, text, list, map, no_item, item, no_member, member}
+use Rattle.json_values.specs.Value.{Value, Items, Members, null, bool, int, uint, text, list, map, no_item, item, no_member, member}
 use Rattle.json_scanner.specs.Grammar.{Blank, Character, Chars, CodeUnit, Elements, Entries, Name, Numeral, Raw, Text, Tree, Trees, nil, snoc, plain, simple}
 use Rattle.json_scanner.specs.Grammar as g
 use Rattle.json_writer.specs.Back.{Letter, Letters, Small, Writable, WritableItems, WritableMembers, WritesJson, marked, members_from, number_tree, tree_of, trees_from}

@@ -3,16 +3,16 @@ use Rattle.std.proofs.Common.{◌≡◌, ℕ, zero, suc, ◌+◌, ◌-◌, ◌<�
 use Rattle.std.proofs.lemmas.List.{take_all, take_more, take-take, take-append-drop, get_or-take, get_or_at, drop-take, length-take-le, length_push}
 use Rattle.std.proofs.lemmas.Bool.{cases_lt}
 use Rattle.std.specs.Fmt.{signed_decimal}
-use Rattle.json.specs.Value.{list, map}
-use Rattle.json.specs.Meaning.{Row, no_row, no_entry, children, items_of, meaning, members_of, part_of, row_of, rows_of, value_at}
-use Rattle.json.specs.declared.parts.Part.{Part}
-use Rattle.json.specs.declared.parts.Source.{Source}
-use Rattle.json.specs.declared.table.Cell.{Cell}
-use Rattle.json.specs.declared.table.Cell.TheVariants as cell
-use Rattle.json.specs.declared.table.Entry.{Entry}
-use Rattle.json.specs.declared.table.Span.{Span}
-use Rattle.json.proofs.Entries.{children_are, row_is, value_is}
-use Rattle.json.proofs.Rows.{rows_of-length}
+use Rattle.json_values.specs.Value.{list, map}
+use Rattle.json_values.specs.Meaning.{Row, no_row, no_entry, children, items_of, meaning, members_of, part_of, row_of, rows_of, value_at}
+use Rattle.json_values.specs.declared.parts.Part.{Part}
+use Rattle.json_values.specs.declared.parts.Source.{Source}
+use Rattle.json_values.specs.declared.table.Cell.{Cell}
+use Rattle.json_values.specs.declared.table.Cell.TheVariants as cell
+use Rattle.json_values.specs.declared.table.Entry.{Entry}
+use Rattle.json_values.specs.declared.table.Span.{Span}
+use Rattle.json_values.proofs.Entries.{children_are, row_is, value_is}
+use Rattle.json_values.proofs.Rows.{rows_of-length}
 use Rattle.json_writer.specs.Compact.{compact, literal, quoted}
 use Rattle.json_writer.specs.Rows.{rows_between, run_text}
 use Rattle.json_writer.proofs.Runs.{list_text, map_text}

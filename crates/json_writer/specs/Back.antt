@@ -1,6 +1,6 @@
 -- What is written is JSON, and of the value that it was written for.
 use Rattle.std.specs.Prelude.{◌≡◌, ℕ, suc, ◌^◌, ◌<◌, Bool, true, false, ◌||◌, List, [], ◌∷◌, ◌++◌, ℤ, pos, negsuc, ◌==◌, nat_lt}
-use Rattle.json.specs.Value.{Value, Items, Members, null, bool, int, uint, text, list, map, no_item, item, no_member, member}
+use Rattle.json_values.specs.Value.{Value, Items, Members, null, bool, int, uint, text, list, map, no_item, item, no_member, member}
 use Rattle.json_scanner.specs.Grammar.{Raw, Text, Tree, Trees, nil, snoc}
 use Rattle.json_scanner.specs.Grammar as written
 use Rattle.json_writer.specs.Compact.{compact}

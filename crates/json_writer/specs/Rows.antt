@@ -1,7 +1,7 @@
 -- What a run of a table's rows is written as.
 use Rattle.std.specs.Prelude.{ℕ, ◌-◌, Bool, true, false, cond, List, [], ◌∷◌, ◌++◌, take, drop, nat_lt}
 use Rattle.std.specs.List.{flat_map}
-use Rattle.json.specs.Meaning.{Row}
+use Rattle.json_values.specs.Meaning.{Row}
 use Rattle.json_writer.specs.Compact.{compact, quoted}
 
 -- the key before a member's value, and nothing before an item

@@ -1,8 +1,8 @@
 use super::{View, push_compact};
-use json::add_entry;
-use json::parts::{Part, Source};
-use json::store::Store;
-use json::table::{Cell, Entry, Span, Table};
+use json_values::add_entry;
+use json_values::parts::{Part, Source};
+use json_values::store::Store;
+use json_values::table::{Cell, Entry, Span, Table};
 use std::test::Fail;
 
 fn part(start: usize, len: usize) -> Part {

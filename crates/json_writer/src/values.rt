@@ -1,17 +1,17 @@
 // Values of a table as compact text.
 ghost use Rattle.std.specs.Prelude.{◌≡◌, ◌+◌, ◌-◌, ◌<◌, ◌≤◌, min, ◌++◌, length, decimal, MatchOption, OnOk, slice_index_or};
-ghost use Rattle.json.specs.Meaning.{no_entry, part_of, rows_of, value_at};
-ghost use Rattle.json.specs.Stored.{texts_of};
+ghost use Rattle.json_values.specs.Meaning.{no_entry, part_of, rows_of, value_at};
+ghost use Rattle.json_values.specs.Stored.{texts_of};
 ghost use Rattle.json_writer.specs.Back.{WritesJson};
 ghost use Rattle.json_writer.specs.Compact.{compact, literal};
 ghost use Rattle.json_writer.specs.Rows.{comma_at, key_text, rows_between, run_text};
 ghost use Rattle.std.specs.Fmt.{signed_decimal};
 
 use super::strings::push_quoted;
-use json::held_text;
-use json::parts::Part;
-use json::store::Store;
-use json::table::{Cell, Entry, Span};
+use json_values::held_text;
+use json_values::parts::Part;
+use json_values::store::Store;
+use json_values::table::{Cell, Entry, Span};
 use std::alloc::{AllocError, Global};
 
 // The entries of a table, and the stores that hold their texts.

@@ -1,4 +1,6 @@
 // The order of byte strings, and a stable sort of numbers under any ranking.
+#![tactic(auto)]
+
 pub mod bytes;
 pub mod sort;
 

@@ -1,13 +1,10 @@
 -- A search over stored rows, step by step, and what is known of each stored row.
-use Rattle.std.proofs.Common.{◌≡◌, ℕ, zero, suc, ◌+◌, ◌-◌, ◌<◌, ◌≤◌, Bool, true, false, cond, leb, List, [], ◌∷◌, ◌++◌, map, length, get_or, drop, Some, None, Decides, Option, sym, refl, ap, ◌∙◌, arith, length-take}
-use Rattle.std.specs.Cmp.Lexicographic.{Matches}
+use Rattle.std.proofs.Common.{◌≡◌, ℕ, zero, suc, ◌+◌, ◌-◌, ◌<◌, ◌≤◌, Bool, true, false, cond, leb, List, [], ◌∷◌, ◌++◌, map, length, get_or, drop, Some, None, Option, sym, refl, ap, ◌∙◌, arith, length-take}
 use Rattle.std.specs.List.{AllByRecursion as All}
 use Rattle.std.specs.Str.{bytes_eq}
 use Rattle.std.proofs.lemmas.List.Elements.{filter-append}
-use Rattle.std.proofs.lemmas.Slice.Eq.{slice_eq-Decides, bytes_eq-Decides}
 use Rattle.std.proofs.lemmas.List.{at_drop_more, at_drop_all, append-nil}
 use Rattle.std.proofs.lemmas.Bool.{and_parts, leb-true, le-leb, cond-true, cond-false}
-use Rattle.std.proofs.lemmas.Bool.Decides.{same_from_decides, Decides-eqb}
 use Rattle.rule_host.specs.Laws.{DecidesFirst, BookLaws}
 use Rattle.rule_host.specs.Rows.{Row, first, is_short, present}
 use Rattle.rule_host.specs.Stored.{part_of, evaluation_in, row_in, part_ok, text_ok, outcome_ok, row_ok, rows_ok}
@@ -54,8 +51,8 @@ pub outcome_sound : (n : ℕ) (x : StoredRow) → row_ok n x ≡ true → outcom
 outcome_sound n x h = (and_parts (part_ok n x.image) (outcome_ok n x.outcome) (and_parts (part_ok n x.expression) _ h).1).1
 
 -- the answer of `==` at bytes that are a part
-pub same_part : (xs ys zs : List ℕ) (r : Bool) → Matches (λ (a b : ℕ) (t : Bool). Decides t (a ≡ b)) xs ys r → xs ≡ zs → bytes_eq zs ys ≡ r
-same_part xs ys zs r h e = ap (λ (l : List ℕ). bytes_eq l ys) (sym e) ∙ same_from_decides (bytes_eq xs ys) r (bytes_eq-Decides xs ys) (slice_eq-Decides Decides-eqb xs ys r h)
+pub same_part : (xs ys zs : List ℕ) (r : Bool) → r ≡ bytes_eq xs ys → xs ≡ zs → bytes_eq zs ys ≡ r
+same_part xs ys zs r h e = ap (λ (l : List ℕ). bytes_eq l ys) (sym e) ∙ sym h
 
 -- ---- a sound list has no long text
 

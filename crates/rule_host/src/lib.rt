@@ -1,4 +1,6 @@
 // Rule hosts: what compiles expressions to numbered programs and executes them on images.
+#![tactic(auto)]
+
 pub mod again;
 pub mod answer;
 pub mod answer_book;

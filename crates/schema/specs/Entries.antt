@@ -1,12 +1,12 @@
 -- A schema by the entries of the table that it was read into. All texts are parts of one text.
 use Rattle.std.specs.Prelude.{ℕ, zero, suc, ◌+◌, ◌-◌, min, Bool, true, false, cond, List, [], ◌∷◌, Some, None, codes, Option, slice_index_or}
-use Rattle.json.specs.Meaning.{key_at, no_entry, part_of, value_at}
-use Rattle.json.specs.Value.{Value}
-use Rattle.json.specs.declared.parts.Part.{Part}
-use Rattle.json.specs.declared.table.Cell.{Cell}
-use Rattle.json.specs.declared.table.Cell.TheVariants as cell
-use Rattle.json.specs.declared.table.Entry.{Entry}
-use Rattle.json.specs.declared.table.Span.{Span}
+use Rattle.json_values.specs.Meaning.{key_at, no_entry, part_of, value_at}
+use Rattle.json_values.specs.Value.{Value}
+use Rattle.json_values.specs.declared.parts.Part.{Part}
+use Rattle.json_values.specs.declared.table.Cell.{Cell}
+use Rattle.json_values.specs.declared.table.Cell.TheVariants as cell
+use Rattle.json_values.specs.declared.table.Entry.{Entry}
+use Rattle.json_values.specs.declared.table.Span.{Span}
 use Rattle.schema.specs.Parts.{named_format, order, then}
 use Rattle.schema.specs.declared.format.SchemaFormat.{SchemaFormat}
 use Rattle.schema.specs.declared.format.SchemaFormat.TheVariants as format

@@ -1,6 +1,6 @@
 -- What the entries of a schema mean: its parts, links and rules are those of the value.
 use Rattle.std.specs.Prelude.{◌≡◌, ℕ, List, map as each, Some, None, Ok, Err, Option, Result}
-use Rattle.json.specs.declared.table.Entry.{Entry}
+use Rattle.json_values.specs.declared.table.Entry.{Entry}
 use Rattle.schema.specs.Entries.{flag_at, format_at, is_map_at, key_in, linked_at, numbers_in, part_at, rules_at, targets_at, value_in}
 use Rattle.schema.specs.Parts.{flag, format_of, is_map, linked, linked_by, part, property_names}
 use Rattle.schema.specs.RuleEntries.{rule_at}

@@ -1,9 +1,9 @@
 -- A rule by the entries of the table that it was read into.
 use Rattle.std.specs.Prelude.{ℕ, Bool, List, Some, None, Ok, Err, codes, Option, Result}
-use Rattle.json.specs.declared.parts.Part.{Part}
-use Rattle.json.specs.declared.table.Cell.{Cell}
-use Rattle.json.specs.declared.table.Cell.TheVariants as cell
-use Rattle.json.specs.declared.table.Entry.{Entry}
+use Rattle.json_values.specs.declared.parts.Part.{Part}
+use Rattle.json_values.specs.declared.table.Cell.{Cell}
+use Rattle.json_values.specs.declared.table.Cell.TheVariants as cell
+use Rattle.json_values.specs.declared.table.Entry.{Entry}
 use Rattle.schema.specs.Entries.{cell_in, part_at}
 use Rattle.schema.specs.declared.rule.InvalidRule.{InvalidRule}
 use Rattle.schema.specs.declared.rule.Rule.{Rule}

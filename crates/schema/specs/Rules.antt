@@ -1,9 +1,9 @@
 -- The rules of a schema.
 use Rattle.std.specs.Prelude.{ℕ, Bool, List, map as each, Some, None, codes, Option}
-use Rattle.json.specs.Meaning.{part_of}
-use Rattle.json.specs.Value.{Value, null, bool, int, uint, text, list, map}
-use Rattle.json.specs.declared.parts.Part.{Part}
-use Rattle.json.specs.declared.parts.Source.{Source}
+use Rattle.json_values.specs.Meaning.{part_of}
+use Rattle.json_values.specs.Value.{Value, null, bool, int, uint, text, list, map}
+use Rattle.json_values.specs.declared.parts.Part.{Part}
+use Rattle.json_values.specs.declared.parts.Source.{Source}
 use Rattle.schema.specs.Parts.{all_items, elements, members, part, then}
 use Rattle.schema.specs.declared.rule.InvalidRule.{InvalidRule}
 use Rattle.schema.specs.declared.rule.Rule.{Rule}

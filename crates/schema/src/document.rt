@@ -4,8 +4,8 @@ ghost use Rattle.schema.specs.Entries.{below as lower, cell_in, elements_at, key
 ghost use Rattle.schema.specs.Laws.{PartsMean};
 ghost use Rattle.std.specs.Str.{bytes_eq};
 
-use json::part_text;
-use json::table::{Cell, Entry, Span};
+use json_values::part_text;
+use json_values::table::{Cell, Entry, Span};
 
 // The entries of a table, and the text that their keys and texts are parts of.
 #[derive(Clone, Copy)]

@@ -6,9 +6,9 @@ ghost use Rattle.schema.specs.Parts.{named_format, then};
 use super::document::{Document, same_bytes};
 use super::format::SchemaFormat;
 use super::group::Group;
-use json::part_text;
-use json::parts::Part;
-use json::table::{Cell, Span};
+use json_values::part_text;
+use json_values::parts::Part;
+use json_values::table::{Cell, Span};
 
 // No entries.
 const NOWHERE: Span = Span { first: 0, count: 0 };

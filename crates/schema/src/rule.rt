@@ -1,5 +1,5 @@
 // The rules of a schema as they are written.
-use json::parts::Part;
+use json_values::parts::Part;
 
 // A rule: its texts are parts of the schema's text, and an absent text is told from an empty one.
 #[derive(Clone, Copy)]

@@ -4,8 +4,8 @@ ghost use Rattle.schema.specs.RuleEntries.{cell_under, free_flag, free_part, nee
 
 use super::document::Document;
 use super::rule::{InvalidRule, Rule};
-use json::parts::Part;
-use json::table::Cell;
+use json_values::parts::Part;
+use json_values::table::Cell;
 
 // A text that has to be there.
 fn needed_text(cell: Option<Cell>) -> Result<Part, InvalidRule>

@@ -1,8 +1,8 @@
 // A line for each rule that is not executed: where its node is in the schema, the rule, and why.
 use compilation::validation::{CompilationError, Validation};
 use compiled_schema::CompiledSchema;
-use json::part_text;
-use json::parts::Part;
+use json_values::part_text;
+use json_values::parts::Part;
 use json_writer::push_quoted;
 use schema::group::{Group, ORDER};
 use schema_tree::LEVELS;

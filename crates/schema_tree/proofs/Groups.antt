@@ -1,7 +1,7 @@
 -- The nodes of a group among all that a node links to.
 use Rattle.std.proofs.Common.{◌≡◌, ℕ, zero, suc, ◌+◌, ◌-◌, ◌<◌, ◌≤◌, min, Bool, true, false, cond, ◌||◌, eqb, List, [], ◌∷◌, ◌++◌, length, get_or, take, drop, sym, refl, ap, ◌∙◌, subst, ⊎_elim, add-zero, arith, drop-cons}
-use Rattle.json.specs.Value.{Value}
-use Rattle.json.specs.declared.table.Entry.{Entry}
+use Rattle.json_values.specs.Value.{Value}
+use Rattle.json_values.specs.declared.table.Entry.{Entry}
 use Rattle.schema.specs.Parts.{linked, linked_by, order}
 use Rattle.schema.specs.declared.group.Group.{Group}
 use Rattle.schema.specs.declared.group.Group.TheVariants.{Properties, Items, Additional, AllOf, OneOf, AnyOf}

@@ -1,7 +1,7 @@
 -- What stands in the tables stays as they grow.
 use Rattle.std.proofs.Common.{◌≡◌, ℕ, zero, suc, ◌+◌, ◌-◌, ◌≤◌, List, [], ◌∷◌, ◌++◌, map as each, length, take, drop, sym, refl, ap, ◌∙◌, subst, add-zero, add_assoc, arith}
-use Rattle.json.specs.Value.{Value, null}
-use Rattle.json.specs.declared.table.Entry.{Entry}
+use Rattle.json_values.specs.Value.{Value, null}
+use Rattle.json_values.specs.declared.table.Entry.{Entry}
 use Rattle.schema.specs.Laws.{rule_said}
 use Rattle.schema.specs.Parts.{linked}
 use Rattle.schema_tree.specs.Stands.{Describes, EachStands, Stands, Tables, next_nodes, size, total}

@@ -1,9 +1,9 @@
 -- A node that was loaded stands for its schema.
 use Rattle.std.proofs.Common.{◌≡◌, ℕ, zero, suc, ◌+◌, ◌-◌, ◌≤◌, List, [], ◌∷◌, ◌++◌, map as each, length, take, drop, Some, codes, sym, refl, ap, ◌∙◌, subst, append_assoc, arith}
 use Rattle.fixed.specs.Listed.{listed}
-use Rattle.json.specs.Value.{Value, null}
-use Rattle.json.specs.declared.table.Entry.{Entry}
-use Rattle.json.specs.declared.table.Span.{Span}
+use Rattle.json_values.specs.Value.{Value, null}
+use Rattle.json_values.specs.declared.table.Entry.{Entry}
+use Rattle.json_values.specs.declared.table.Span.{Span}
 use Rattle.schema.proofs.Means.{each_each, parts_mean}
 use Rattle.schema.specs.Entries.{linked_at, numbers_in, rules_at, run, targets_at, value_in}
 use Rattle.schema.specs.Laws.{PartsMean, rule_said}

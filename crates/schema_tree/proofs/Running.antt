@@ -1,8 +1,8 @@
 -- Loading one schema after another.
 use Rattle.std.proofs.Common.{◌≡◌, ℕ, ◌+◌, ◌-◌, ◌≤◌, List, [], ◌∷◌, ◌++◌, map as each, length, sym, refl, ap, ◌∙◌, subst, append_assoc, arith}
 use Rattle.fixed.specs.Listed.{listed}
-use Rattle.json.specs.Value.{Value}
-use Rattle.json.specs.declared.table.Entry.{Entry}
+use Rattle.json_values.specs.Value.{Value}
+use Rattle.json_values.specs.declared.table.Entry.{Entry}
 use Rattle.schema.specs.Entries.{run, value_in}
 use Rattle.schema_tree.specs.Builds.{One, Run, tables}
 use Rattle.schema_tree.specs.Stands.{EachStands, Stands, size, total}

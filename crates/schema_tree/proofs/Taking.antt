@@ -1,6 +1,6 @@
 -- Steps one after another.
 use Rattle.std.proofs.Common.{◌≡◌, ℕ, zero, suc, ◌+◌, ◌-◌, ◌<◌, ◌≤◌, Bool, true, false, cond, ltb, List, [], ◌∷◌, ◌++◌, length, Some, None, Option, sym, refl, ap, ◌∙◌, append_assoc}
-use Rattle.json.specs.declared.table.Entry.{Entry}
+use Rattle.json_values.specs.declared.table.Entry.{Entry}
 use Rattle.schema.specs.Entries.{linked_at, numbers_in, place_in, rules_at, run}
 use Rattle.schema_tree.specs.Steps.{Progress, Step, node, rule, rule_entry, rule_steps, steps, taken, with_node, with_rule}
 use Rattle.schema_tree.proofs.Runs.{run_end, run_more}

@@ -1,7 +1,7 @@
 -- What loading a part of a schema leaves.
 use Rattle.std.specs.Prelude.{◌≡◌, ℕ, ◌+◌, List, ◌++◌, map as each, length, Some, None, Ok, Err, Option, Result}
 use Rattle.fixed.specs.Listed.{listed}
-use Rattle.json.specs.declared.table.Entry.{Entry}
+use Rattle.json_values.specs.declared.table.Entry.{Entry}
 use Rattle.schema.specs.Entries.{value_in}
 use Rattle.schema_tree.specs.Stands.{EachStands, Stands, Tables, size, total}
 use Rattle.schema_tree.specs.Steps.{Progress}

@@ -1,7 +1,7 @@
 -- What loading a schema leaves.
 use Rattle.std.specs.Prelude.{◌≡◌, ℕ, ◌+◌, List, [], length, Some}
-use Rattle.json.specs.Value.{Value}
-use Rattle.json.specs.declared.table.Entry.{Entry}
+use Rattle.json_values.specs.Value.{Value}
+use Rattle.json_values.specs.declared.table.Entry.{Entry}
 use Rattle.schema_tree.specs.Stands.{Stands, Tables, size}
 use Rattle.schema_tree.specs.Steps.{Progress}
 use Rattle.schema_tree.specs.declared.node.Node.{Node}

@@ -1,7 +1,7 @@
 -- The nodes of a schema's table.
 use Rattle.std.specs.Prelude.{ℕ, ◌+◌, false, cond, List, [], ◌∷◌, ◌++◌, take, drop, None, codes, ◌==◌}
-use Rattle.json.specs.declared.table.Entry.{Entry}
-use Rattle.json.specs.declared.table.Span.{Span}
+use Rattle.json_values.specs.declared.table.Entry.{Entry}
+use Rattle.json_values.specs.declared.table.Span.{Span}
 use Rattle.schema.specs.Entries.{flag_at, format_at, is_map_at, nowhere, numbers_in, part_at, targets_at}
 use Rattle.schema.specs.Parts.{order}
 use Rattle.schema.specs.declared.format.SchemaFormat.TheVariants as format

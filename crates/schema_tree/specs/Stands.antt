@@ -1,7 +1,7 @@
 -- What the tables of a loaded schema mean.
 use Rattle.std.specs.Prelude.{◌≡◌, ℕ, zero, suc, ◌+◌, ◌≤◌, List, [], ◌∷◌, map as each, length, take, drop, codes}
-use Rattle.json.specs.Value.{Value, null}
-use Rattle.json.specs.declared.table.Entry.{Entry}
+use Rattle.json_values.specs.Value.{Value, null}
+use Rattle.json_values.specs.declared.table.Entry.{Entry}
 use Rattle.schema.specs.Entries.{key_in, numbers_in, value_in}
 use Rattle.schema.specs.Laws.{rule_said}
 use Rattle.schema.specs.Parts.{flag, format_of, is_map, linked, linked_by, part, property_names}

@@ -1,6 +1,6 @@
 -- The steps in which a schema is loaded, and the first for which there is no room.
 use Rattle.std.specs.Prelude.{ℕ, zero, suc, ◌+◌, Bool, true, false, cond, List, [], ◌∷◌, ◌++◌, length, Some, None, Option, Result, nat_lt}
-use Rattle.json.specs.declared.table.Entry.{Entry}
+use Rattle.json_values.specs.declared.table.Entry.{Entry}
 use Rattle.schema.specs.Entries.{linked_at, numbers_in, place_in, rules_at}
 use Rattle.schema.specs.RuleEntries.{rule_at}
 use Rattle.schema.specs.declared.rule.InvalidRule.{InvalidRule}

@@ -13,7 +13,7 @@ use super::fault::TreeFault;
 use super::node::{Node, RuleEntry};
 use super::targets::Targets;
 use super::tree::{NODES, SchemaTree};
-use json::table::Span;
+use json_values::table::Span;
 use schema::document::Document;
 use schema::group::ORDER;
 

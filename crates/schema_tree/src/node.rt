@@ -3,7 +3,7 @@ ghost use Rattle.std.specs.Prelude.{◌≡◌};
 ghost use Rattle.schema_tree.specs.Nodes.{read_node, unread_node};
 
 use super::targets::Targets;
-use json::table::Span;
+use json_values::table::Span;
 use schema::document::Document;
 use schema::format::SchemaFormat;
 use schema::rule::{InvalidRule, Rule};

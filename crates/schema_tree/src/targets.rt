@@ -4,7 +4,7 @@ ghost use Rattle.schema.specs.Parts.{order};
 ghost use Rattle.schema.specs.declared.group.Group.{Group};
 ghost use Rattle.schema_tree.specs.Nodes.{links_before, rank, read_targets, target};
 
-use json::table::Span;
+use json_values::table::Span;
 use schema::document::Document;
 use schema::group::{Group, ORDER};
 

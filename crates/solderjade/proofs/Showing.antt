@@ -3,7 +3,7 @@ use Rattle.std.proofs.Common.{◌≡◌, ℕ, ◌+◌, ◌/◌, ◌%◌, ◌^◌
 use Rattle.std.specs.Option.{option_map}
 use Rattle.std.proofs.lemmas.List.{flat_map_more, map_more, take_all, take_at, take_more}
 use Rattle.std.proofs.lemmas.Bool.{le-leb}
-use Rattle.base64.specs.Base64Decoder.{filled}
+use Rattle.base64_texts.specs.Base64Decoder.{filled}
 use Rattle.escaping.specs.Answers.{counted}
 use Rattle.writer.specs.Written.{written}
 use Rattle.writer.proofs.Puts.{written-whole}

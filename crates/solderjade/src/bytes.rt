@@ -1,12 +1,12 @@
 // `bytes TEXT..`: the bytes of each base64 text in hexadecimal, or the word `text` where it is none.
-ghost use Rattle.base64.specs.Base64.{decoded};
+ghost use Rattle.base64_texts.specs.Base64.{decoded};
 ghost use Rattle.solderjade.specs.Shown.{shown_bytes};
 ghost use Rattle.std.specs.Prelude.{◌≡◌, vec_items};
 
 use super::failure::Failure;
 use super::hex::hex;
 use super::lines::Shows;
-use base64::{decode, decoded_len};
+use base64_texts::{decode, decoded_len};
 use std::alloc::Global;
 
 // What the verb prints for a word.

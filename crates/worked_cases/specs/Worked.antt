@@ -1,7 +1,7 @@
 -- Worked cases of the definitions that the contracts of the library cite, all together.
 use Rattle.escaping.specs.Laws.{WorkedNames}
 use Rattle.durations.specs.DurationCases.{WorkedDurations}
-use Rattle.base64.specs.Base64Cases.{WorkedBytes}
+use Rattle.base64_texts.specs.Base64Cases.{WorkedBytes}
 
 pub record WorkedCases : Type 0 where
   -- three names that look alike, and their escapes

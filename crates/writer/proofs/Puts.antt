@@ -1,5 +1,5 @@
 -- Writes one after another.
-use Rattle.std.proofs.Common.{◌≡◌, ℕ, ◌+◌, ◌-◌, ◌<◌, ◌≤◌, true, false, cond, List, [], ◌++◌, length, take, drop, sym, refl, ap, ◌∙◌, append_assoc, append-nil, add-zero, arith, length-append, drop_of_length-le}
+use Rattle.std.proofs.Common.{◌≡◌, ℕ, ◌+◌, ◌-◌, ◌<◌, ◌≤◌, true, false, cond, List, [], ◌++◌, length, drop, sym, refl, ap, ◌∙◌, append_assoc, append-nil, add-zero, arith, length-append, drop_of_length-le}
 use lib.Seq.{paste}
 use borrow.Rule.Slice.PartMut.{put_mid}
 use Rattle.std.proofs.lemmas.List.{take-append-drop}
@@ -29,8 +29,8 @@ put_then d at m s t {e} {f} h p q r =
     r ∙ (ap (λ z. put z m t) p ∙ (ap (λ z. put (put d at s) z t) q ∙ put-put d at s t h))
 
 -- a copy into `d[at..at + length s]`
-pub put_mid : (d : List ℕ) (at : ℕ) (s t : List ℕ) → t ≡ s → put_mid at ((at + length s) - at) d t ≡ put d at s
-put_mid d at s t e =
+pub put_mid_lem : (d : List ℕ) (at : ℕ) (s t : List ℕ) → t ≡ s → put_mid at ((at + length s) - at) d t ≡ put d at s
+put_mid_lem d at s t e =
     let n : length s ≡ (at + length s) - at = omega arith in
     put_mid-paste at ((at + length s) - at) d t s (length s) e n refl ∙ put-paste d at s
 

@@ -1,4 +1,6 @@
 // A byte writer over a lent buffer: it writes a thing whole or not at all, says how far it came, and leaves what lies beyond untouched.
+#![tactic(auto)]
+
 ghost use Rattle.std.specs.Prelude.{◌≡◌, ◌≤◌, [], ◌∷◌, drop, is_ok, decimal};
 ghost use Rattle.writer.specs.Written.{be4, be8, fits, moved, written};
 

@@ -11,9 +11,9 @@ fn one_after_another(rt: HostRuntime) -> Result<(), Fail> {
     writer.put_be_u32(0x01020304)?;
     writer.put_be_u64(0xfffefdfcfbfaf9f8)?;
     assert_eq!(rt; writer.position(), 17);
-    assert_eq!(rt; &out[0..9], b"ab.60\x01\x02\x03\x04");
-    assert_eq!(rt; &out[9..17], b"\xff\xfe\xfd\xfc\xfb\xfa\xf9\xf8");
-    assert_eq!(rt; &out[17..24], b"\x07\x07\x07\x07\x07\x07\x07");
+    assert_eq!(rt; &out[0..9], b"ab.60\x01\x02\x03\x04".as_slice());
+    assert_eq!(rt; &out[9..17], b"\xff\xfe\xfd\xfc\xfb\xfa\xf9\xf8".as_slice());
+    assert_eq!(rt; &out[17..24], b"\x07\x07\x07\x07\x07\x07\x07".as_slice());
     Ok(())
 }
 
@@ -29,7 +29,7 @@ fn short_buffers(rt: HostRuntime) {
     assert_eq!(rt; writer.put(b""), Ok(()));
     assert_eq!(rt; writer.put_byte(0), Err(BufferShort));
     assert_eq!(rt; writer.position(), 3);
-    assert_eq!(rt; &out[0..3], b"abc");
+    assert_eq!(rt; &out[0..3], b"abc".as_slice());
 }
 
 #[test]

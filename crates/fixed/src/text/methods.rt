@@ -1,11 +1,10 @@
 // What is asked of a text, and added to it.
-ghost use Rattle.std.specs.Prelude.{◌≡◌, ◌≤◌, [], length, if◌then◌else◌, Some, None, Decides, ◌==◌, nat_le};
+ghost use Rattle.std.specs.Prelude.{◌≡◌, ◌≤◌, [], length, if◌then◌else◌, Some, None, Decides, ◌==◌, nat_le, bytes_eq};
 ghost use Rattle.std.specs.Option.{option_map};
 ghost use Rattle.fixed.specs.Room.{fits, extended, granted, Extends};
 ghost use Rattle.fixed.specs.Texts.{text_bytes};
-ghost use Rattle.std.specs.Cmp.Rules.{comparing};
-ghost use Rattle.std.proofs.Common.{rules, arith};
-ghost use Rattle.std.specs.Cmp as Keys;
+ghost use Rattle.std.specs.Cmp.{on_equiv, on_per, partial_equiv_from_equiv};
+ghost use Rattle.std.specs.Cmp.Lexicographic.{nat_list_eq_equiv};
 
 use super::{BoundedText, MOST};
 use crate::refusal::Full;
@@ -72,15 +71,18 @@ impl BoundedText {
 
 // Two texts are equal where their bytes are, whatever stands behind them.
 impl PartialEq for BoundedText {
-    ghost equals = { λ a b r. Decides r (text_bytes a ≡ text_bytes b) };
+    ghost eq = { λ a b. bytes_eq (text_bytes a) (text_bytes b) };
 
-    ghost laws = { Keys.partial_equiv_from_equiv (first_of (Prim.search (comparing, rules), Prim.grind (arith, Self.row.coded.inj))) };
+    ghost laws = { on_per text_bytes (partial_equiv_from_equiv nat_list_eq_equiv) };
 
-    fn eq(&self, other: &BoundedText) -> bool {
+    fn eq(&self, other: &BoundedText) -> bool
+        ensures value { result ≡ bytes_eq (text_bytes self.now) (text_bytes other.now) }
+        ensures equals { Decides result (text_bytes self.now ≡ text_bytes other.now) }
+    {
         self.as_bytes() == other.as_bytes()
     }
 }
 
 impl Eq for BoundedText {
-    ghost laws = { first_of (Prim.search (comparing, rules), Prim.grind (arith, Self.row.coded.inj)) };
+    ghost laws = { on_equiv text_bytes nat_list_eq_equiv };
 }

@@ -7,7 +7,6 @@ ghost use Rattle.rule_host.specs.Books.{bytes_in, rows_held, accepted_in};
 ghost use Rattle.rule_host.specs.Compiling.{place, has_room};
 ghost use Rattle.rule_host.specs.BookMeaning.{book_meaning};
 ghost use Rattle.rule_host.specs.Stored.{part_of, part_ok};
-ghost use Rattle.std.proofs.Common.{rules, arith};
 
 use super::{AnswerBook, BYTES, EXPRESSIONS};
 use crate::answer::{Compiled, Outcome};
@@ -83,7 +82,7 @@ impl RuleHost for AnswerBook {
 
     ghost accepted = { λ s. accepted_in s };
 
-    ghost distinct = { first_of (Prim.search rules, Prim.grind (arith, Self.row.coded.inj)) };
+    ghost distinct = { λ h. h.distinct };
 
     fn compile(&mut self, expression: &[u8]) -> Compiled {
         let Some(row) = self.book.row_for(expression) else {

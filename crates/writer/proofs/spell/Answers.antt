@@ -1,4 +1,4 @@
-use Rattle.std.proofs.Common.{◌≡◌, ℕ, ◌/◌, ◌≤◌, [], ◌++◌, length, drop, decimal, sym, refl, ap, ◌∙◌, append-nil, arith, length-set, drop_of_length-le, rules}
+use Rattle.std.proofs.Common.{ℕ, ◌/◌, ◌≤◌, ◌++◌, decimal, sym, ap, ◌∙◌, append-nil, arith, length-set, drop_of_length-le}
 use Rattle.writer.proofs.Digits.{room_some, digit_more, digit_first}
 use Rattle.writer.proofs.spell.Goals as goal
 

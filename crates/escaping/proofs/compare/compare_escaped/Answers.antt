@@ -1,4 +1,5 @@
-use Rattle.std.proofs.Common.{◌≡◌, ℕ, List, [], ◌∷◌, Some, None, Option, Ordering, Less, Equal, Greater, sym, ap, ◌∙◌, arith, MatchOption}
+use Rattle.std.proofs.Common.{◌≡◌, ℕ, List, Some, None, Option, Less, Equal, Greater, sym, ◌∙◌, arith, MatchOption}
+use Rattle.std.proofs.lemmas.Cmp.{ranked}
 use Rattle.order.specs.Bytes.{compare_bytes}
 use Rattle.escaping.specs.Escape.{escape}
 use Rattle.escaping.specs.Left.{bytes_left}
@@ -38,7 +39,7 @@ returns-then-x-y c =
     let x = c.in-Some-Some.x in
     let y = c.in-Some-Some.y in
     let apart : x ≡ y → ⊥ = λ h. omega arith in
-    let e : c.cmp.result ≡ compare_bytes (escape c.args.a.now) (escape c.args.b.now) = sym (put_in (bytes_left c.loop-x.left) (bytes_left c.loop-x.right) c.in-Some-Some.ensures c.in-Some-Some.ensures' ∙ heads_apart x y _ _ c.cmp.result apart c.cmp.ensures) ∙ c.loop-x.invariant in
+    let e : c.cmp.result ≡ compare_bytes (escape c.args.a.now) (escape c.args.b.now) = sym (put_in (bytes_left c.loop-x.left) (bytes_left c.loop-x.right) c.in-Some-Some.ensures c.in-Some-Some.ensures' ∙ heads_apart x y _ _ c.cmp.result apart (ranked x y c.cmp.result c.cmp.ensures)) ∙ c.loop-x.invariant in
     record { answer = e; same = same_names c.args.a.now c.args.b.now c.cmp.result e }
 
 pub loop-x-preserved : goal.loop-x-preserved

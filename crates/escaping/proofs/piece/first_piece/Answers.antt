@@ -1,4 +1,4 @@
-use Rattle.std.proofs.Common.{◌≡◌, ◌<◌, ◌≤◌, length, get_or, arith, rules}
+use Rattle.std.proofs.Common.{◌≡◌, ◌≤◌, length, get_or, arith, rules}
 use Rattle.escaping.proofs.Pieces.{first_long, none_left, piece_pair, piece_plain, piece_sign, shorter_rest}
 use Rattle.escaping.proofs.piece.first_piece.Goals as goal
 

@@ -1,7 +1,7 @@
 use Rattle.std.proofs.Common.{◌≡◌, ℕ, ◌-◌, ◌<◌, ◌≤◌, min, List, length, take, drop, sym, ap, ◌∙◌, ⊎_elim, arith}
 use Rattle.fixed.specs.Listed.{listed}
 use Rattle.fixed.specs.Room.{extended}
-use Rattle.json.specs.declared.table.Entry.{Entry}
+use Rattle.json_values.specs.declared.table.Entry.{Entry}
 use Rattle.json_reader.specs.Building.{moved_in}
 use Rattle.json_scanner.specs.declared.modes.Container.{Container}
 use Rattle.std.proofs.lemmas.List.{take_rest, drop_all}

@@ -1,6 +1,6 @@
 use Rattle.std.proofs.Common.{◌≡◌, ◌+◌, List, [], length, take, drop, Ok, Err, sym, refl, ap, ◌∙◌, subst, arith, rules}
 use Rattle.fixed.specs.Listed.{listed}
-use Rattle.json.specs.Stored.{written}
+use Rattle.json_values.specs.Stored.{written}
 use Rattle.json_scanner.specs.Holds.{held}
 use Rattle.json_scanner.specs.Bytes.{then}
 use Rattle.json_scanner.specs.Machine.{Control}

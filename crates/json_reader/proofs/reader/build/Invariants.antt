@@ -1,6 +1,6 @@
 use Rattle.std.proofs.Common.{◌≡◌, length, take, drop}
 use Rattle.fixed.specs.Listed.{listed}
-use Rattle.json.specs.Stored.{written}
+use Rattle.json_values.specs.Stored.{written}
 use Rattle.json_scanner.specs.Holds.{held}
 use Rattle.json_scanner.specs.Machine.{fresh}
 use Rattle.json_reader.specs.Building.{building}

@@ -1,7 +1,7 @@
 use Rattle.std.proofs.Common.{◌≡◌, ℕ, List, ◌++◌, Ok, Err, ap, ◌∙◌}
 use Rattle.fixed.specs.Listed.{listed}
-use Rattle.json.specs.Meaning.{value_at}
-use Rattle.json.specs.Stored.{texts_of, written}
+use Rattle.json_values.specs.Meaning.{value_at}
+use Rattle.json_values.specs.Stored.{texts_of, written}
 use Rattle.json_round_trip.proofs.Copies.{copies_err, copies_ok, left}
 use Rattle.json_writer.specs.Compact.{compact}
 use Rattle.std.proofs.lemmas.Result.{err_from_is_err_and}

@@ -1,9 +1,9 @@
 use Rattle.std.proofs.Common.{◌≡◌, ◌<◌, [], ◌∷◌, ◌++◌, length, get_or, vec_items, sym, ap, ◌∙◌, append-nil, arith, w64, SFits, rules}
 use Rattle.std.specs.Fmt.{signed_decimal}
 use Rattle.std.proofs.lemmas.Int.{to_z-of_z}
-use Rattle.json.proofs.Rows.{rows_of-length}
-use Rattle.json.specs.Meaning.{no_entry, rows_of}
-use Rattle.json.specs.Stored.{texts_of}
+use Rattle.json_values.proofs.Rows.{rows_of-length}
+use Rattle.json_values.specs.Meaning.{no_entry, rows_of}
+use Rattle.json_values.specs.Stored.{texts_of}
 use Rattle.json_writer.specs.Compact.{quoted}
 use Rattle.json_writer.specs.Rows.{key_text}
 use Rattle.json_writer.proofs.Entries.{bool_by, int_by, key_by, list_by, map_by, none_by, null_by, quoted_by, uint_by}

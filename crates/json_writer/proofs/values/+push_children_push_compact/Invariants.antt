@@ -1,6 +1,6 @@
 use Rattle.std.proofs.Common.{◌≡◌, ◌+◌, ◌*◌, min, ◌++◌, vec_items}
-use Rattle.json.specs.Meaning.{rows_of}
-use Rattle.json.specs.Stored.{texts_of}
+use Rattle.json_values.specs.Meaning.{rows_of}
+use Rattle.json_values.specs.Stored.{texts_of}
 use Rattle.json_writer.specs.Rows.{rows_between, run_text}
 use Rattle.json_writer.proofs.values.+push_children_push_compact.Given as goal
 

@@ -1,6 +1,6 @@
 use Rattle.std.proofs.Common.{◌≡◌, Bool, cond, [], ◌∷◌, ◌++◌, vec_items, sym, ap, ◌∙◌}
-use Rattle.json.specs.Meaning.{part_of}
-use Rattle.json.specs.Stored.{texts_of}
+use Rattle.json_values.specs.Meaning.{part_of}
+use Rattle.json_values.specs.Stored.{texts_of}
 use Rattle.json_writer.specs.Compact.{quoted}
 use Rattle.json_writer.specs.Rows.{key_text}
 use Rattle.json_writer.proofs.Runs.{then_more}

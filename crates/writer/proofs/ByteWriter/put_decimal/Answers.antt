@@ -9,7 +9,7 @@ returns c =
     let at = c.args.self.now.at in
     let ds = c.spell-from.new.digits in
     let from = c.spell-from.result in
-    let e : take (20  from) (drop from ds) ≡ decimal c.args.n = between_to_end ds from 20 (omega arith) ∙ c.spell-from.ensures.value in
+    let e : take (20 - from) (drop from ds) ≡ decimal c.args.n = between_to_end ds from 20 (omega arith) ∙ c.spell-from.ensures.value in
     record {
       ok = c.put.ensures.ok ∙ ap (fits out at) e;
       at = c.put.ensures.at ∙ ap (moved out at) e;

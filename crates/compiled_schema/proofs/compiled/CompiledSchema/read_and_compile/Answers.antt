@@ -5,10 +5,10 @@ use Rattle.compilation.specs.Loading.{Outcome, loading}
 use Rattle.compiled_schema.specs.Holds.{Held, held}
 use Rattle.compiled_schema.proofs.Reading.{refused_in, taken_in}
 use Rattle.fixed.specs.Listed.{listed}
-use Rattle.json.specs.Stored.{written}
-use Rattle.json.specs.Value.{Value}
-use Rattle.json.specs.declared.parts.Source.TheVariants.{Schema}
-use Rattle.json.specs.declared.table.Entry.{Entry}
+use Rattle.json_values.specs.Stored.{written}
+use Rattle.json_values.specs.Value.{Value}
+use Rattle.json_values.specs.declared.parts.Source.TheVariants.{Schema}
+use Rattle.json_values.specs.declared.table.Entry.{Entry}
 use Rattle.json_reader.specs.Values.{value_of}
 use Rattle.rule_host.specs.Meaning.{Meaning}
 use Rattle.schema.specs.Entries.{value_in}

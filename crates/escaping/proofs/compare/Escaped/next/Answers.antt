@@ -1,4 +1,4 @@
-use Rattle.std.proofs.Common.{◌≡◌, ◌<◌, ◌≤◌, ◌++◌, length, sym, ◌∙◌, rules}
+use Rattle.std.proofs.Common.{◌<◌, ◌≤◌, ◌++◌, length, sym, ◌∙◌, rules}
 use Rattle.escaping.specs.Escape.{replaced}
 use Rattle.escaping.proofs.Pieces.{none_left}
 use Rattle.escaping.proofs.Walk.{next_byte}

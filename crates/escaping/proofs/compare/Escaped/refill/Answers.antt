@@ -1,4 +1,4 @@
-use Rattle.std.proofs.Common.{◌≡◌, [], length, sym, ◌∙◌, arith, rules}
+use Rattle.std.proofs.Common.{◌≡◌, length, arith, rules}
 use Rattle.escaping.proofs.Pieces.{none_left}
 use Rattle.escaping.proofs.Walk.{all_spent, refill_none, refill_some, some_left}
 use Rattle.escaping.proofs.compare.Escaped.refill.Goals as goal

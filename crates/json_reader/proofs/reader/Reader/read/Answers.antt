@@ -1,6 +1,6 @@
 use Rattle.std.proofs.Common.{◌≡◌, sym, subst}
 use Rattle.fixed.specs.Listed.{listed}
-use Rattle.json.specs.Stored.{written}
+use Rattle.json_values.specs.Stored.{written}
 use Rattle.json_reader.proofs.Whole.{read_law}
 use Rattle.json_reader.specs.Law.{ReadsAs}
 use Rattle.json_reader.specs.Reading.{Outcome, outcome, reading}

@@ -8,7 +8,7 @@ bounds-self-depth c = omega (arith, c.requires, opened-length c.args.self.now.ki
 pub invariant_of-self : goal.invariant_of-self
 invariant_of-self c =
     let h : c.args.self.now.depth < length c.args.self.now.kinds = search (rules, c.requires, opened-length c.args.self.now.kinds c.args.self.now.depth c.args.self.now.fits) in
-    (simp length-set (omega arith), tt)
+    record { fits = simp length-set (omega arith) }
 
 pub returns : goal.returns
 returns c =

@@ -6,11 +6,11 @@ use Rattle.rule_host.specs.Stored.{part_of}
 use Rattle.rule_host.proofs.Accepting.{grown}
 use Rattle.rule_host.proofs.answer_book.AnswerBook.accept.Goals as goal
 
-pub invariant-of-self : goal.invariant-of-self
-invariant-of-self c =
+pub invariant_of-self : goal.invariant_of-self
+invariant_of-self c =
     let a = c.args.self.now in
     let g = grown (bytes_in a.book) (listed a.accepted) (listed c.push.new.self) a.used c.args.expression.now c.args.part c.requires.sound c.requires.stands c.requires.new c.requires.room c.push.ensures.list a.sound a.counts a.distinct in
-    (g.sound, (g.counts, (g.small, (g.distinct, tt))))
+    record { sound = g.sound; counts = g.counts; small = g.small; distinct = g.distinct }
 
 pub returns : goal.returns
 returns c =

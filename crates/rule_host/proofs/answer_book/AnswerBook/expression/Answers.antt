@@ -6,10 +6,10 @@ use Rattle.rule_host.specs.Stored.{part_of}
 use Rattle.rule_host.proofs.Accepting.{nth_map, part_sound}
 use Rattle.rule_host.proofs.answer_book.AnswerBook.expression.Goals as goal
 
-pub returns-in-default : goal.returns-in-default
-returns-in-default c =
+pub returns-in_default : goal.returns-in_default
+returns-in_default c =
     let a = c.args.self.now in
-    ap (option_map (part_of (bytes_in a.book))) c.in-default.ensures.value
+    ap (option_map (part_of (bytes_in a.book))) c.in_default.ensures.value
     ∙ sym (nth_map (part_of (bytes_in a.book)) (listed a.accepted) c.args.program)
 
 pub bytes-requires : goal.bytes-requires

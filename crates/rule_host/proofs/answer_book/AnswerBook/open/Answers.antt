@@ -7,13 +7,18 @@ use Rattle.rule_host.specs.Stored.{part_of, parts_ok}
 use Rattle.rule_host.specs.declared.stored.Part.{Part}
 use Rattle.rule_host.proofs.answer_book.AnswerBook.open.Goals as goal
 
-pub invariant-of-result : goal.invariant-of-result
-invariant-of-result c =
+pub invariant_of-result : goal.invariant_of-result
+invariant_of-result c =
     let bytes = bytes_in c.args.book in
     let ps = listed c.args.accepted in
     let none = nil_from_length ps c.requires in
     let n = length-map ps (part_of bytes) in
-    (ap (parts_ok (length bytes)) none, (sym (ap (λ (qs : List Part). total (map (part_of bytes) qs)) none), (omega arith, ((λ i j l e. omega (arith, l.1, n, c.requires)), tt))))
+    record {
+      sound = ap (parts_ok (length bytes)) none;
+      counts = sym (ap (λ (qs : List Part). total (map (part_of bytes) qs)) none);
+      small = omega arith;
+      distinct = λ i j l e. omega (arith, l.1, n, c.requires);
+    }
 
 pub returns : goal.returns
 returns c = record { book = refl; accepted = ap (map (part_of (bytes_in c.args.book))) (nil_from_length (listed c.args.accepted) c.requires) }

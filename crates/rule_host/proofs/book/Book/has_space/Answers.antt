@@ -15,7 +15,7 @@ returns-then-len-lt-ROWS c =
     let n = length-map (listed b.rows) (row_in (bytes_in b)) in
     let l : length (rows_in b) < 1024 = omega (arith, n, c.len.ensures.value, c.if-len-lt-ROWS.true) in
     let used = c.len-then-len-lt-ROWS.ensures in
-    space_left (length (rows_in b)) (rows_bytes (rows_in b)) c.len-then-len-lt-ROWS.result e i (length c.args.text.now) c.saturating-add-both.result c.saturating-add-all.result l (b.filled ∙ sym used.value) used.few c.saturating-add-both.ensures c.saturating-add-all.ensures
+    space_left (length (rows_in b)) (rows_bytes (rows_in b)) c.len-then-len-lt-ROWS.result e i (length c.args.text.now) c.saturating_add-both.result c.saturating_add-all.result l (b.filled ∙ sym used.value) used.few c.saturating_add-both.ensures c.saturating_add-all.ensures
 
 pub returns-else-len-lt-ROWS : goal.returns-else-len-lt-ROWS
 returns-else-len-lt-ROWS c =

@@ -4,8 +4,8 @@ use Rattle.rule_host.specs.Books.{bytes_in}
 use Rattle.rule_host.specs.Stored.{part_ok}
 use Rattle.rule_host.proofs.book.Book.text.Goals as goal
 
-pub short-text-requires : goal.short-text-requires
-short-text-requires c =
+pub short_text-requires : goal.short_text-requires
+short_text-requires c =
     let p = c.args.part in
     let bytes = bytes_in c.args.self.now in
     let few = leb-true (p.to - p.from) 1024 (and_parts (part_ok (length bytes) p) _ c.requires).1 in

@@ -1,7 +1,7 @@
 use Rattle.std.proofs.Common.{get_or, sym, ap}
 use Rattle.std.proofs.lemmas.List.{get_or_past}
-use Rattle.json.specs.Meaning.{no_entry}
-use Rattle.json.specs.declared.table.Entry.{Entry}
+use Rattle.json_values.specs.Meaning.{no_entry}
+use Rattle.json_values.specs.declared.table.Entry.{Entry}
 use Rattle.schema.proofs.document.Document.cell.Goals as goal
 
 pub returns-else-i-self : goal.returns-else-i-self

@@ -1,5 +1,5 @@
 use Rattle.std.proofs.Common.{◌≡◌, ℕ, ◌+◌, ◌*◌, ◌^◌, ◌≤◌, true, false, eqb, get_or, drop, sym, ap, ◌∙◌, arith}
-use Rattle.json.specs.declared.table.Span.{Span}
+use Rattle.json_values.specs.declared.table.Span.{Span}
 use Rattle.schema.specs.Parts.{order}
 use Rattle.schema.specs.declared.group.Group.TheVariants.{Properties}
 use Rattle.schema_tree.specs.Nodes.{links_before, rank, target}

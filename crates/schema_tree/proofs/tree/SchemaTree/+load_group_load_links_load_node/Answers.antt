@@ -1,6 +1,6 @@
 use Rattle.std.proofs.Common.{◌≡◌, ℕ, suc, ◌+◌, ◌-◌, ◌<◌, ◌≤◌, Bool, cond, List, [], ◌∷◌, ◌++◌, map, length, get_or, take, drop, Some, None, sym, refl, ap, ◌∙◌, subst, arith, rules}
 use Rattle.fixed.specs.Listed.{listed}
-use Rattle.json.specs.declared.table.Span.{Span}
+use Rattle.json_values.specs.declared.table.Span.{Span}
 use Rattle.schema.specs.Entries.{linked_at, numbers_in, place_in, rules_at, run}
 use Rattle.schema.specs.Parts.{order}
 use Rattle.schema.specs.declared.group.Group.TheVariants.{Properties}

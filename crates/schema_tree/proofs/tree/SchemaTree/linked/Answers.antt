@@ -1,6 +1,6 @@
 use Rattle.std.proofs.Common.{◌≡◌, ℕ, ◌+◌, ◌-◌, ◌≤◌, min, List, [], length, take, drop, sym, ap, ◌∙◌, arith}
 use Rattle.fixed.specs.Listed.{listed}
-use Rattle.json.specs.declared.table.Span.{Span}
+use Rattle.json_values.specs.declared.table.Span.{Span}
 use Rattle.schema.specs.Parts.{order}
 use Rattle.schema_tree.specs.Nodes.{links_before, target}
 use Rattle.schema_tree.specs.declared.node.Node.{Node}

@@ -1,6 +1,6 @@
 use Rattle.std.proofs.Common.{◌≡◌, ℕ, ◌+◌, ◌-◌, ◌≤◌, List, [], ◌∷◌, ◌++◌, map, length, sym, refl, ap, ◌∙◌, append_assoc, arith, rules}
 use Rattle.fixed.specs.Listed.{listed}
-use Rattle.json.specs.declared.table.Span.{Span}
+use Rattle.json_values.specs.declared.table.Span.{Span}
 use Rattle.schema.specs.Entries.{numbers_in, rules_at, run}
 use Rattle.schema_tree.specs.Builds.{progress}
 use Rattle.schema_tree.specs.Steps.{rule_entry, rule_steps, taken}

@@ -1,5 +1,5 @@
 use Rattle.std.proofs.Common.{◌≡◌, ap, ◌∙◌, arith}
-use Rattle.base64.specs.Base64.{decoded}
+use Rattle.base64_texts.specs.Base64.{decoded}
 use Rattle.solderjade.specs.Shown.{hexed}
 use Rattle.solderjade.proofs.Showing.{decoded-whole}
 use Rattle.solderjade.proofs.bytes.BytesShows.show.Goals as goal

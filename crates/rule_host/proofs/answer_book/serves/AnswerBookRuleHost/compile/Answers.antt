@@ -17,8 +17,8 @@ accept-requires c =
     record {
       sound = expression_sound (length (bytes_in a.book)) c.in-Some.row f.sound;
       stands = found_part (bytes_in a.book) c.args.expression.now c.in-Some.row (present (rows_held a)) f.found;
-      new = sym c.in-default-number-of.ensures;
-      room = sym c.if-not-has-room.ensures;
+      new = sym c.in_default-number_of.ensures;
+      room = sym c.if-not-has_room.ensures;
     }
 
 pub returns : goal.returns
@@ -26,7 +26,7 @@ returns c =
     let a = c.args.self.now in
     let f = c.in-Some.ensures in
     let r = c.accept.ensures in
-    let e = compiled_by (book_meaning (rows_held a)) (accepted_in a) c.args.expression.now well None true (sym (ap judgement_by f.found)) (sym c.in-default-number-of.ensures) (sym c.if-not-has-room.ensures) in
+    let e = compiled_by (book_meaning (rows_held a)) (accepted_in a) c.args.expression.now well None true (sym (ap judgement_by f.found)) (sym c.in_default-number_of.ensures) (sym c.if-not-has_room.ensures) in
     record {
       kept = ap (λ (b : Book). book_meaning (rows_in b)) r.book;
       answer = ap program r.number ∙ sym (ap (λ (p : Compilation × List (List ℕ)). p.0) e);

@@ -1,4 +1,0 @@
-// Base64 as RFC 4648 section 4 has it, decoded exactly.
-pub mod base64;
-
-pub use base64::{DecodeError, decode, decoded_len};

@@ -1,9 +1,0 @@
-use Rattle.std.proofs.Common.{rules}
-use Rattle.json.proofs.Rows.{meanings_stay}
-use Rattle.json.proofs.table.add_entry.Goals as goal
-
-pub returns-in-err-push : goal.returns-in-err-push
-returns-in-err-push c = record { answer = search rules; table = c.push.ensures.list; stays = meanings_stay }
-
-pub returns : goal.returns
-returns c = record { answer = search rules; table = c.push.ensures.list; stays = meanings_stay }

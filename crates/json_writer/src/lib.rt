@@ -1,4 +1,6 @@
 // JSON values written as compact text.
+#![tactic(auto)]
+
 mod strings;
 mod values;
 

@@ -68,7 +68,7 @@ fn compact_text(rt: HostRuntime) -> Result<(), Fail> {
     push_compact(heap, view, 9, &mut text)?;
     assert_eq!(rt;
         text.as_slice(),
-        b"{\"\":[-9223372036854775808,18446744073709551615,true,false,null,[],{}],\"k\":\"\\\"\\\\\\b\\f\\n\\r\\t\\u001f/\xc3\xa4\"}"
+        b"{\"\":[-9223372036854775808,18446744073709551615,true,false,null,[],{}],\"k\":\"\\\"\\\\\\b\\f\\n\\r\\t\\u001f/\xc3\xa4\"}".as_slice()
     );
     Ok(())
 }

@@ -1,6 +1,4 @@
 // A layer that counts the executions of the host below it, and means what that host means.
-ghost use Rattle.std.proofs.Common.{rules};
-
 use rule_host::answer::{Compiled, Outcome};
 use rule_host::host::RuleHost;
 
@@ -15,7 +13,7 @@ impl<H: RuleHost> RuleHost for Counting<H> {
 
     ghost accepted = { λ s. H.RuleHost.accepted s.below };
 
-    ghost distinct = { Prim.search rules };
+    ghost distinct = { λ s. H.RuleHost.distinct s.below };
 
     fn compile(&mut self, expression: &[u8]) -> Compiled {
         self.below.compile(expression)

@@ -5,6 +5,7 @@ use rule_host::answer_book::AnswerBook;
 use rule_host::host::RuleHost;
 use rule_host::maker::BookMaker;
 use rule_host::scripted::Scripted;
+use std::alloc::Global;
 use std::process::Abort;
 use std::test::*;
 
@@ -123,9 +124,9 @@ fn numbered(high: u8, low: u8) -> [u8; LENGTH] {
 }
 
 // A book of 768 expressions that have the first `len` bytes of those above.
-fn many(rt: HostRuntime, len: usize) -> Result<AnswerBook, Fail> {
-    let mut maker = BookMaker::new(rt.alloc())?;
-    assert!(len <= LENGTH);
+fn many(heap: Global, rt: &impl Abort, len: usize) -> Result<AnswerBook, Fail> {
+    let mut maker = BookMaker::new(heap)?;
+    assert!(rt; len <= LENGTH);
     for high in 0..3u8 {
         for low in 0..=255u8 {
             maker.add(
@@ -155,7 +156,7 @@ fn accepts(rt: &impl Abort, book: &mut AnswerBook, len: usize) -> Result<usize, 
 
 #[test]
 fn capacity_by_count(rt: HostRuntime) -> Result<(), Fail> {
-    let mut book = many(rt, 2)?;
+    let mut book = many(rt.alloc(), &rt, 2)?;
     assert_eq!(rt; accepts(&rt, &mut book, 2)?, 512);
     assert_eq!(rt; number(book.compile(&[1, 255])), Some(511));
     assert!(rt; is_full(book.compile(&[2, 0])));
@@ -166,7 +167,7 @@ fn capacity_by_count(rt: HostRuntime) -> Result<(), Fail> {
 // 327 expressions of 200 bytes have 65,400 bytes; one more would pass 65,535.
 #[test]
 fn capacity_by_bytes(rt: HostRuntime) -> Result<(), Fail> {
-    let mut book = many(rt, LENGTH)?;
+    let mut book = many(rt.alloc(), &rt, LENGTH)?;
     assert_eq!(rt; accepts(&rt, &mut book, LENGTH)?, 327);
     assert_eq!(rt; number(book.compile(&numbered(0, 9))), Some(9));
     Ok(())

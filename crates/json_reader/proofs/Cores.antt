@@ -1,20 +1,19 @@
 -- What is built of the frames.
-use Rattle.std.proofs.Common.{◌≡◌, ℕ, zero, suc, ◌+◌, ◌-◌, ◌<◌, ◌≤◌, Bool, true, false, cond, List, [], ◌∷◌, ◌++◌, map, reverse, length, get_or, take, drop, sym, refl, ap, ◌∙◌, subst, arith}
+use Rattle.std.proofs.Common.{◌≡◌, ℕ, suc, ◌-◌, ◌≤◌, List, [], ◌∷◌, ◌++◌, map, reverse, length, get_or, take, drop, sym, refl, ap, ◌∙◌, subst, arith}
 use Rattle.json_values.proofs.Rows.{rows_of-length, rows_stay, rows_push}
 use Rattle.json_values.specs.declared.parts.Part.{Part}
 use Rattle.json_values.specs.declared.parts.Source.{Source}
 use Rattle.json_values.specs.declared.table.Cell.{Cell}
 use Rattle.json_values.specs.declared.table.Entry.{Entry}
-use Rattle.json_values.specs.declared.table.Span.{Span}
-use Rattle.json_values.specs.Meaning.{Row, no_row, no_entry, part_of, children, meaning, row_of, rows_of}
+use Rattle.json_values.specs.Meaning.{Row, no_row, part_of, children, meaning, row_of, rows_of}
 use Rattle.json_scanner.specs.Grammar.{Tree, Members}
-use Rattle.json_scanner.specs.Machine.{Frame, bare, sole, items, fields, field, kind, kinds, put, naming}
+use Rattle.json_scanner.specs.Machine.{Frame, bare, sole, items, fields, field, kind, put}
 use Rattle.json_scanner.specs.declared.modes.Container.{Container}
 use Rattle.json_reader.proofs.Frames.{raw_rows, frame_rows, all_rows, frame_key, Ready}
 use Rattle.json_reader.specs.Building.{no_key}
 use Rattle.json_reader.specs.Values.{value_of, item_rows}
 use Rattle.json_reader.specs.declared.builder.Open.{Open}
-use Rattle.std.proofs.lemmas.List.{append_assoc, append-nil, map_push, take-map, drop-map, take_at, drop_at, take-append-drop, length-append, length-map, length_push, length-reverse, length-drop, length-take-le, reverse-append, reverse-reverse, get_or-map, get_or_past, take-append-le, drop-append-le, drop_all}
+use Rattle.std.proofs.lemmas.List.{append_assoc, append-nil, map_push, take-map, drop-map, take_at, drop_at, take-append-drop, length-map, length-reverse, length-drop, reverse-append, reverse-reverse, drop-append-le}
 
 -- the source's text begins with w
 abbrev pub Over : Source → List ℕ → (Source → List ℕ) → Type 0

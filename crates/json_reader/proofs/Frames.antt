@@ -1,5 +1,5 @@
 -- What the scanner's frames have of rows, and where they may stand.
-use Rattle.std.proofs.Common.{ℕ, ◌<◌, Bool, List, [], ◌∷◌, ◌++◌}
+use Rattle.std.proofs.Common.{ℕ, ◌<◌, List, [], ◌∷◌, ◌++◌}
 use Rattle.json_values.specs.Meaning.{Row}
 use Rattle.json_scanner.specs.Grammar.{Members}
 use Rattle.json_scanner.specs.Grammar as written

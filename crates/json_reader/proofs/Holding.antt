@@ -1,5 +1,5 @@
 -- What is built follows the scanner's machine, act by act.
-use Rattle.std.proofs.Common.{◌≡◌, ℕ, zero, suc, ◌+◌, ◌-◌, ◌<◌, ◌≤◌, Bool, true, false, cond, ltb, leb, List, [], ◌∷◌, ◌++◌, map, reverse, length, get_or, take, drop, Some, None, Option, sym, refl, ap, ◌∙◌, subst, ⊎_elim, arith}
+use Rattle.std.proofs.Common.{◌≡◌, ℕ, suc, ◌+◌, ◌-◌, ◌<◌, ◌≤◌, true, false, ltb, List, [], ◌∷◌, ◌++◌, map, reverse, length, get_or, take, drop, Some, Option, sym, refl, ap, ◌∙◌, subst, ⊎_elim, arith}
 use lib.Utf8.{encode, scalar}
 use Rattle.fixed.proofs.Lists.{last_push}
 use Rattle.fixed.specs.Listed.{last}
@@ -9,7 +9,7 @@ use Rattle.json_values.specs.declared.parts.Source.{Source}
 use Rattle.json_values.specs.declared.table.Cell.{Cell}
 use Rattle.json_values.specs.declared.table.Cell.TheVariants as cell
 use Rattle.json_values.specs.declared.table.Entry.{Entry}
-use Rattle.json_values.specs.Meaning.{Row, no_row, no_entry, items_of, members_of, meaning, row_of, rows_of}
+use Rattle.json_values.specs.Meaning.{Row, no_row, no_entry, items_of, members_of, row_of, rows_of}
 use Rattle.json_values.specs.Value as value
 use Rattle.json_scanner.specs.Grammar.{Tree, Trees, Members}
 use Rattle.json_scanner.specs.Grammar as written
@@ -22,13 +22,12 @@ use Rattle.json_scanner.specs.declared.modes.Container.TheVariants as container
 use Rattle.json_scanner.specs.declared.modes.Mode.{Mode}
 use Rattle.json_scanner.specs.declared.modes.Mode.TheVariants as mode
 use Rattle.json_reader.proofs.Cores.{Over, Reads, Means, Matches, Core, here, over_here, core_text, cut_reads, core_put, core_length, core_depth, core_open, core_name, innermost_open, span_rows, core_close, core_inner}
-use Rattle.json_reader.proofs.Frames.{raw_rows, frame_rows, all_rows, frame_key, Ready, Keyed, Done, Closing, Within, Around, Fit, begun_in, credit}
+use Rattle.json_reader.proofs.Frames.{raw_rows, frame_rows, all_rows, frame_key, Ready, Keyed, Done, Closing, Around, Fit, begun_in, credit}
 use Rattle.json_reader.proofs.Members.{member_kids, members-length}
 use Rattle.json_reader.proofs.Turning.{Goes}
-use Rattle.json_reader.specs.Building.{Built, no_key, valued, opened, notes_after, text_after, table_after, closed_notes, closed_table, moved_in, container_cell, number_cell}
-use Rattle.json_reader.specs.Notes.{Notes}
+use Rattle.json_reader.specs.Building.{Built, no_key, valued, opened, notes_after, text_after, table_after, closed_notes, closed_table, moved_in, container_cell}
 use Rattle.json_reader.specs.Sifted.{key_of, added, picked, sifted}
-use Rattle.json_reader.specs.Values.{value_of, item_rows, member_rows, number_of}
+use Rattle.json_reader.specs.Values.{value_of, item_rows, member_rows}
 use Rattle.json_reader.specs.declared.builder.Open.{Open}
 use Rattle.std.proofs.lemmas.List.{append_assoc, append-nil, drop-append-le, drop_all, take_at, length-append, length_push, length-map, length-drop, length-take-le, get_or-map, get_or_past}
 use Rattle.std.proofs.lemmas.Bool.{cond-true, cond_both, le-leb, cases_lt}

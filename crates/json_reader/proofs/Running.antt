@@ -1,7 +1,6 @@
 -- What is built of a text, and the value that the machine reads.
-use Rattle.std.proofs.Common.{◌≡◌, ℕ, zero, suc, ◌+◌, ◌-◌, ◌<◌, ◌≤◌, Bool, true, false, cond, ltb, leb, List, [], ◌∷◌, ◌++◌, map, length, get_or, take, drop, pos, neg_ℤ, Some, None, Ok, Err, Option, Result, sym, refl, ap, ◌∙◌, subst, arith}
+use Rattle.std.proofs.Common.{◌≡◌, ℕ, suc, ◌+◌, ◌<◌, ◌≤◌, Bool, true, false, cond, ltb, leb, List, [], ◌∷◌, ◌++◌, map, length, get_or, pos, neg_ℤ, Some, None, Ok, Err, Option, Result, sym, refl, ap, ◌∙◌, subst, arith}
 use Rattle.json_values.specs.declared.parts.Source.{Source}
-use Rattle.json_values.specs.declared.table.Cell.{Cell}
 use Rattle.json_values.specs.declared.table.Cell.TheVariants as cell
 use Rattle.json_values.specs.declared.table.Entry.{Entry}
 use Rattle.json_values.specs.Meaning.{Row, no_row, meaning, row_of, rows_of}
@@ -10,9 +9,8 @@ use Rattle.json_scanner.proofs.Cases.{by_cond}
 use Rattle.json_scanner.proofs.Roomy.{moved-roomy, Roomy}
 use Rattle.json_scanner.specs.Grammar.{Tree}
 use Rattle.json_scanner.specs.Grammar as written
-use Rattle.json_scanner.specs.Holds.{Room, Counts}
 use Rattle.json_scanner.specs.Bytes.{Move, readied, settled, settled_figures, counted_in, still, figure, moved, then}
-use Rattle.json_scanner.specs.Machine.{Control, Frame, bare, sole, items, fields, field, kind, kinds, put, naming, wrapped, State, start, control, performed, prepared, with_number, carried, stepped, step, only, ended, finished, run, surroundings, arranged, arrived, counted, innermost, settled_end, finish, turned, fresh, closed}
+use Rattle.json_scanner.specs.Machine.{Control, Frame, bare, sole, items, fields, field, kind, kinds, put, naming, wrapped, State, control, performed, prepared, with_number, carried, stepped, step, only, ended, finished, run, surroundings, arranged, arrived, counted, innermost, settled_end, finish, turned, closed}
 use Rattle.json_scanner.specs.declared.modes.Act.{Act}
 use Rattle.json_scanner.specs.declared.modes.Act.TheVariants as act
 use Rattle.json_scanner.specs.declared.modes.Container.{Container}
@@ -23,13 +21,12 @@ use Rattle.json_scanner.specs.declared.modes.Mode.{Mode}
 use Rattle.json_scanner.specs.declared.modes.Mode.TheVariants as mode
 use Rattle.json_scanner.specs.declared.modes.Numeral.{Numeral}
 use Rattle.json_scanner.specs.declared.modes.Ready.{Ready as Readied}
-use Rattle.json_scanner.specs.declared.modes.Step.{Step}
 use Rattle.json_reader.proofs.Cores.{Over, Means, put-kind, core_length}
-use Rattle.json_reader.proofs.Frames.{frame_rows, all_rows, Ready, Done, Fit, begun_in, credit}
+use Rattle.json_reader.proofs.Frames.{all_rows, Ready, Done, Fit}
 use Rattle.json_reader.proofs.Holding.{Holds, put_holds, acted, perform_holds}
-use Rattle.json_reader.proofs.Turning.{Goes, Good, moved_good}
-use Rattle.json_reader.specs.Building.{Built, built, building, ended_with, number_cell, numbered}
-use Rattle.json_reader.specs.Values.{value_of, number_of}
+use Rattle.json_reader.proofs.Turning.{Good, moved_good}
+use Rattle.json_reader.specs.Building.{Built, built, building, ended_with, number_cell}
+use Rattle.json_reader.specs.Values.{value_of}
 use Rattle.std.proofs.lemmas.Bool.{leb-false}
 use Rattle.std.proofs.lemmas.List.{append-nil}
 

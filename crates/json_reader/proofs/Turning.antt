@@ -1,15 +1,11 @@
 -- Each move of the scanner fits the frames.
-use Rattle.std.proofs.Common.{◌≡◌, ℕ, ◌+◌, ◌-◌, ◌*◌, ◌%◌, ◌<◌, ◌≤◌, Bool, true, false, cond, ◌&&◌, ◌||◌, eqb, ltb, leb, ◌⊎◌, List, [], ◌∷◌, ◌++◌, Some, None, Ok, Err, Option, Result, sym, refl, ap, ◌∙◌, subst, inl, inr, arith}
+use Rattle.std.proofs.Common.{◌≡◌, ℕ, ◌+◌, ◌<◌, ◌≤◌, Bool, true, false, cond, ◌&&◌, eqb, ltb, leb, List, [], ◌∷◌, Some, None, Ok, Err, Option, refl, inl, inr, arith}
 use lib.Utf8.{scalar}
 use Rattle.std.proofs.lemmas.Bool.Decides.{nat_tests}
-use Rattle.std.proofs.lemmas.Bool.{and_parts, and_from, and_cases, le-leb, lt-ltb, leb-false, eqb-false, eqb-true, cond-true, cond-false, cases_Bool, cases_lt}
+use Rattle.std.proofs.lemmas.Bool.{and_from, and_cases, le-leb, lt-ltb, leb-false, eqb-false, cond-true, cases_lt}
 use Rattle.std.specs.Char.{is_ascii_digit}
-use Rattle.json_scanner.specs.declared.modes.Container.{Container}
-use Rattle.json_scanner.specs.declared.modes.Container.TheVariants as container
 use Rattle.json_scanner.specs.declared.modes.Role.{Role}
 use Rattle.json_scanner.specs.declared.modes.Role.TheVariants as role
-use Rattle.json_scanner.specs.declared.modes.Piece.{Piece}
-use Rattle.json_scanner.specs.declared.modes.Piece.TheVariants as piece
 use Rattle.json_scanner.specs.declared.modes.Word.{Word}
 use Rattle.json_scanner.specs.declared.modes.Word.TheVariants as word
 use Rattle.json_scanner.specs.declared.modes.Verdict.{Verdict}
@@ -25,12 +21,11 @@ use Rattle.json_scanner.specs.declared.modes.Mode.TheVariants as mode
 use Rattle.json_scanner.specs.declared.modes.Act.{Act}
 use Rattle.json_scanner.specs.declared.modes.Act.TheVariants as act
 use Rattle.json_scanner.specs.declared.modes.Around.{Around as Surroundings}
-use Rattle.json_scanner.specs.declared.modes.Fault.{Fault}
 use Rattle.json_scanner.specs.Grammar.{white, hex, hexed, unit, pair, tail, second, plain, lead2, lead3, lead4, simple}
-use Rattle.json_scanner.specs.Bytes.{Move, Spelled, moved, begun, opening, beginning, keyed, followed, judged, figured, spelled, led, tailed, escaped, escaped_by, united, paired, noted, act_of, quoted, closing, spelling, letter}
+use Rattle.json_scanner.specs.Bytes.{Move, Spelled, moved, begun, opening, beginning, keyed, followed, judged, figured, spelled, led, tailed, escaped_by, united, paired, noted, quoted, closing, spelling, letter}
 use Rattle.json_scanner.specs.Machine.{Frame, bare, sole, items, fields, field, kinds, surroundings}
 use Rattle.json_scanner.proofs.Cases.{by_cond}
-use Rattle.json_reader.proofs.Frames.{Ready, Listing, Keyed, Named, Done, Closing, Within, Outermost, Fit, Fine, Small, Quoting, begun_in, begun_role, credit, inside_credit}
+use Rattle.json_reader.proofs.Frames.{Ready, Listing, Keyed, Named, Done, Closing, Fit, Fine, Small, Quoting, begun_in, credit}
 
 module _ (m : Mode) (f : Frame) (gs : List Frame) where
   -- what is known where an act leads to a mode

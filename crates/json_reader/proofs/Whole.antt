@@ -1,29 +1,24 @@
 -- A whole text.
-use Rattle.std.proofs.Common.{◌≡◌, ℕ, ◌+◌, ◌<◌, ◌≤◌, Bool, true, false, cond, ◌&&◌, leb, ◌⊎◌, List, [], ◌∷◌, ◌++◌, length, get_or, take, drop, Some, None, Ok, Err, Option, Result, sym, refl, ap, ◌∙◌, subst, inl, inr, arith}
-use Rattle.fixed.specs.Room.{extended}
-use Rattle.json_values.proofs.Rows.{rows_of-length, rows_push, rows_of-grown, meanings_stay}
-use Rattle.json_values.specs.Laws.{AllInside, Grown}
-use Rattle.json_values.specs.Meaning.{Row, no_row, meaning, row_of, rows_of, value_at}
+use Rattle.std.proofs.Common.{◌≡◌, ℕ, ◌+◌, ◌≤◌, Bool, true, false, cond, leb, List, [], ◌∷◌, ◌++◌, length, get_or, take, drop, Some, Ok, Err, Option, Result, sym, refl, ap, ◌∙◌, inl, inr, arith}
+use Rattle.json_values.proofs.Rows.{rows_of-length, rows_push, meanings_stay}
+use Rattle.json_values.specs.Meaning.{Row, no_row, row_of, rows_of, value_at}
 use Rattle.json_values.specs.declared.parts.Source.{Source}
 use Rattle.json_values.specs.declared.table.Entry.{Entry}
 use Rattle.json_scanner.specs.Grammar.{Tree}
 use Rattle.json_scanner.specs.Bytes.{then}
-use Rattle.json_scanner.specs.Machine.{Control, State, run, start, control, turned, finish, fresh}
+use Rattle.json_scanner.specs.Machine.{Control, run, start, turned, finish, fresh}
 use Rattle.json_scanner.specs.declared.modes.Fault.{Fault as Flaw}
 use Rattle.json_scanner.specs.declared.modes.Fault.TheVariants as flaw
 use Rattle.json_scanner.specs.declared.modes.Numeral.{Numeral}
 use Rattle.json_scanner.specs.declared.modes.Step.{Step}
 use Rattle.json_reader.proofs.Builds.{text_stays, table_stays, extended_stays}
-use Rattle.json_reader.proofs.Cores.{Over}
 use Rattle.json_reader.proofs.Holding.{Holds, extended_in}
 use Rattle.json_reader.proofs.Running.{Finished, Agrees, run_agrees}
 use Rattle.json_reader.specs.Building.{Built, built, building, ended_with, numbered}
-use Rattle.json_reader.specs.Law.{Taken, Refused, ReadsAs}
-use Rattle.json_reader.specs.Reading.{roomy, beginning, reading, rooted, Outcome, outcome}
-use Rattle.json_reader.specs.Values.{value_of}
-use Rattle.json_reader.specs.declared.fault.Fault.{Fault}
+use Rattle.json_reader.specs.Law.{Taken, ReadsAs}
+use Rattle.json_reader.specs.Reading.{roomy, beginning, reading, rooted, outcome}
 use Rattle.std.proofs.lemmas.List.{append-nil, drop_all, take_all, take-append-drop, get_or_push, length_push}
-use Rattle.std.proofs.lemmas.Bool.{and_parts, leb-true, cases_Bool}
+use Rattle.std.proofs.lemmas.Bool.{and_parts, leb-true}
 use Rattle.std.specs.List.{slice_get}
 
 -- ---- what was there stays

@@ -1,5 +1,5 @@
 -- What each act of the scanner does to what is built.
-use Rattle.std.specs.Prelude.{ℕ, ◌+◌, ◌-◌, ◌^◌, Bool, true, false, cond, List, [], ◌∷◌, ◌++◌, length, take, drop, pos, neg_ℤ, Some, None, Ok, Err, Option, Result, nat_le, nat_lt}
+use Rattle.std.specs.Prelude.{ℕ, ◌+◌, ◌-◌, ◌^◌, Bool, true, false, cond, List, [], ◌∷◌, length, take, drop, pos, neg_ℤ, Some, None, Ok, Option, Result, nat_le, nat_lt}
 use Rattle.std.proofs.Math.Utf8.{encode, scalar}
 use Rattle.fixed.specs.Listed.{last}
 use Rattle.fixed.specs.Room.{extended}

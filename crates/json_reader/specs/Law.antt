@@ -10,7 +10,6 @@ use Rattle.json_reader.specs.Values.{value_of}
 use Rattle.json_reader.specs.declared.fault.Fault.{Fault}
 use Rattle.json_scanner.specs.Grammar.{Tree}
 use Rattle.json_scanner.specs.Machine.{run, start}
-use Rattle.json_scanner.specs.declared.modes.Fault.{Fault as Flaw}
 use Rattle.json_scanner.specs.declared.modes.Fault.TheVariants as flaw
 
 -- the text has a value, which is that of the last entry, i; what was stored and tabled before stands in front, and means what it meant

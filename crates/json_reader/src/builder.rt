@@ -4,9 +4,9 @@ ghost use Rattle.json_reader.specs.Notes.{notes};
 ghost use Rattle.std.specs.Prelude.{◌≡◌};
 
 use fixed::list::FixedList;
+use json_scanner::modes::{Container, Numeral};
 use json_values::parts::{Part, Source};
 use json_values::table::{Cell, Entry};
-use json_scanner::modes::{Container, Numeral};
 use std::alloc::{AllocError, Global};
 
 // At most so many values are in a text.

@@ -10,10 +10,10 @@ ghost use Rattle.fixed.specs.Room.{extended};
 use super::bench::Bench;
 use super::builder::{Builder, Open};
 use super::sift::move_members;
+use json_scanner::modes::{Act, Container, Step};
 use json_values::parts::Source;
 use json_values::store::Store;
 use json_values::table::{Cell, Entry, Span, Table};
-use json_scanner::modes::{Act, Container, Step};
 
 fn container_cell(container: Container, span: Span) -> Cell
     ensures { result ≡ container_cell container span }

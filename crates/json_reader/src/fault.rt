@@ -2,8 +2,8 @@
 ghost use Rattle.json_reader.specs.Flaws.{flaw_number, flaw_place};
 ghost use Rattle.std.specs.Prelude.{◌≡◌};
 
-use json_values::parts::Source;
 use json_scanner::modes::Fault as Flaw;
+use json_values::parts::Source;
 
 // The text, and its flaw.
 #[derive(Clone, Copy)]

@@ -1,4 +1,6 @@
 // Reads JSON texts into stores and tables.
+#![tactic(auto)]
+
 mod bench;
 mod builder;
 mod closing;

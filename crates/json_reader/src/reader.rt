@@ -11,11 +11,11 @@ ghost use Rattle.std.specs.Prelude.{◌≡◌, length, take, Ok, Err, MatchResul
 use super::bench::Bench;
 use super::builder::{Builder, VALUES};
 use super::fault::Fault;
+use json_scanner::Scanner;
+use json_scanner::modes::Fault as Flaw;
 use json_values::parts::Source;
 use json_values::store::{ROOM, Store};
 use json_values::table::{ENTRIES, Table};
-use json_scanner::Scanner;
-use json_scanner::modes::Fault as Flaw;
 use std::alloc::{AllocError, Global};
 
 #[derive(Drop)]

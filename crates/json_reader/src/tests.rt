@@ -40,7 +40,7 @@ fn nested_and_repeated(rt: HostRuntime) -> Result<(), Fail> {
     };
     assert_eq!(rt; table.len(), 5);
     assert_eq!(rt; root, 4);
-    assert_eq!(rt; store.text(), b"bxab");
+    assert_eq!(rt; store.text(), b"bxab".as_slice());
     let (first, count) = span(entry(&table, root)?.cell)?;
     assert!(rt; first == 2 && count == 2);
     let a = entry(&table, 2)?;
@@ -82,7 +82,7 @@ fn refusals_leave_nothing(rt: HostRuntime) -> Result<(), Fail> {
         Ok(_) => return Err(Fail::new("not refused")),
         Err(fault) => assert!(rt; fault.number() == 3 && fault.place() == 9),
     }
-    assert_eq!(rt; store.text(), b"kept");
+    assert_eq!(rt; store.text(), b"kept".as_slice());
     assert!(rt; store.bytes()[4] == 0 && store.bytes()[7] == 0);
     assert_eq!(rt; table.len(), 1);
     assert!(rt;
@@ -90,7 +90,7 @@ fn refusals_leave_nothing(rt: HostRuntime) -> Result<(), Fail> {
             .read(b"{\"k\":\"more\"}", Source::Older, &mut store, &mut table)
             .is_ok()
     );
-    assert_eq!(rt; store.text(), b"keptkmore");
+    assert_eq!(rt; store.text(), b"keptkmore".as_slice());
     assert_eq!(rt; table.len(), 3);
     Ok(())
 }

@@ -1,4 +1,4 @@
-use Rattle.std.proofs.Common.{◌≡◌, ℕ, ◌-◌, ◌<◌, ◌≤◌, min, List, length, take, drop, sym, ap, ◌∙◌, ⊎_elim, arith}
+use Rattle.std.proofs.Common.{◌≡◌, ℕ, ◌<◌, ◌≤◌, min, List, length, drop, sym, ap, ◌∙◌, ⊎_elim, arith}
 use Rattle.fixed.specs.Listed.{listed}
 use Rattle.fixed.specs.Room.{extended}
 use Rattle.json_values.specs.declared.table.Entry.{Entry}
@@ -18,6 +18,6 @@ pub returns-in-List : goal.returns-in-List
 returns-in-List c =
     let ps = c.args.pending.now in
     let t = listed c.args.table.now in
-    c.extend-from-slice.ensures.list
+    c.extend_from_slice.ensures.list
     ∙ (ap (λ (z : List Entry). extended 8192 t z) (take_rest ps c.min-from.result ∙ rest ps c.args.first c.min-from.result c.min-from.ensures)
     ∙ sym (ap (λ (k : Container). moved_in k c.args.text.now ps c.args.first t) c.in-List.is))

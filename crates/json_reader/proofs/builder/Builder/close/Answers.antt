@@ -1,7 +1,7 @@
-use Rattle.std.proofs.Common.{◌≡◌, ◌-◌, List, [], length, take, Option, sym, refl, ap, ◌∙◌, arith}
-use Rattle.fixed.specs.Listed.{listed, last}
+use Rattle.std.proofs.Common.{◌≡◌, ◌-◌, length, Option, sym, ap, ◌∙◌, arith}
+use Rattle.fixed.specs.Listed.{listed}
 use Rattle.json_reader.specs.Building.{closed_table, closed_notes}
-use Rattle.json_reader.specs.Notes.{Notes, notes}
+use Rattle.json_reader.specs.Notes.{notes}
 use Rattle.json_reader.specs.declared.builder.Open.{Open}
 use Rattle.std.proofs.lemmas.List.{take_all}
 use Rattle.json_reader.proofs.builder.Builder.close.Goals as goal

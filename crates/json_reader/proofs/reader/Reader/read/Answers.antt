@@ -12,8 +12,8 @@ returns c =
     let text = c.args.text.now in
     let w = written c.args.store.now in
     let t = listed c.args.table.now in
-    let e = c.read-text.ensures in
-    let o : ◌≡◌ {A = Outcome} (outcome source w t (reading source text w t)) (record { answer = c.read-text.result; text = written c.read-text.new.store; table = listed c.read-text.new.table }) = λ i. record { answer = sym e.answer i; text = sym e.text i; table = sym e.table i } in
+    let e = c.read_text.ensures in
+    let o : ◌≡◌ {A = Outcome} (outcome source w t (reading source text w t)) (record { answer = c.read_text.result; text = written c.read_text.new.store; table = listed c.read_text.new.table }) = λ i. record { answer = sym e.answer i; text = sym e.text i; table = sym e.table i } in
     record {
       answer = e.answer;
       text = e.text;

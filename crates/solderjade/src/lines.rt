@@ -24,7 +24,7 @@ fn push_line(lines: &mut Vec<u8>, line: &[u8]) -> Result<(), Failure>
 
 // The lines for all words, in their order.
 pub fn print_all<S: Shows>(heap: Global, shows: &S, words: &[String]) -> Result<Vec<u8>, Failure>
-    ensures { IfOk result (λ v. v.items ≡ lines_of (line shows.now) (map string_bytes words.now)) }
+    ensures { IfOk result (λ v. v.items ≡ lines_of (S.line shows.now) (map string_bytes words.now)) }
 {
     let mut lines = Vec::new(heap);
     for word in words {

@@ -1,4 +1,6 @@
 // The program: a verb and its words on the command line, and what it prints.
+#![tactic(auto)]
+
 mod bytes;
 mod duration;
 mod escape;

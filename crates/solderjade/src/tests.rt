@@ -16,9 +16,12 @@ fn printed(heap: Global, words: &[&str]) -> Result<Vec<u8>, Failure> {
 fn conversions(rt: HostRuntime) -> Result<(), Fail> {
     let heap = rt.alloc();
     let durations = printed(heap, &["duration", "1.5h", "-0", "-1.9ns", "5"])?;
-    assert_eq!(rt; durations.as_slice(), b"5400000000000\n0\n-1\ntext\n");
+    assert_eq!(rt;
+        durations.as_slice(),
+        b"5400000000000\n0\n-1\ntext\n".as_slice()
+    );
     let bytes = printed(heap, &["bytes", "Zm9v", "", "/w==", "Zh=="])?;
-    assert_eq!(rt; bytes.as_slice(), b"666f6f\n\nff\ntext\n");
+    assert_eq!(rt; bytes.as_slice(), b"666f6f\n\nff\ntext\n".as_slice());
     Ok(())
 }
 

@@ -6,7 +6,7 @@ use Rattle.json_values.specs.declared.table.Entry.{Entry}
 use Rattle.json_values.specs.declared.table.Cell.{Cell}
 use Rattle.json_values.specs.declared.table.Cell.TheVariants as cell
 use Rattle.json_values.specs.Meaning.{value_at}
-use Rattle.std.specs.List.{AllByRecursion as All}
+use Rattle.std.specs.List.{AllByRecursion}
 
 -- a part ends within the texts of its store
 abbrev pub Inside : (Source → List ℕ) → Part → Type 0
@@ -23,7 +23,7 @@ CellInside texts (cell.Map sp) = Unit {0}
 
 -- so do all parts of a table
 abbrev pub AllInside : (Source → List ℕ) → List Entry → Type 0
-AllInside texts entries = All (λ e. Inside texts e.key × CellInside texts e.cell) entries
+AllInside texts entries = AllByRecursion (λ e. Inside texts e.key × CellInside texts e.cell) entries
 
 -- each store has these texts, and may have more behind them
 abbrev pub Grown : (Source → List ℕ) → (Source → List ℕ) → Type 0

@@ -1,5 +1,5 @@
 -- What is written follows the grammar, production by production.
-use Rattle.std.proofs.Common.{◌≡◌, ℕ, zero, suc, ◌+◌, ◌-◌, ◌*◌, ◌/◌, ◌%◌, ◌^◌, ◌<◌, ◌≤◌, Bool, true, false, cond, not, ◌&&◌, ◌||◌, eqb, ltb, leb, List, [], ◌∷◌, ◌++◌, ℤ, pos, negsuc, Some, None, decimal, sym, refl, ap, ◌∙◌, subst, ⊎_elim, append_assoc, append-nil, arith}
+use Rattle.std.proofs.Common.{◌≡◌, ℕ, suc, ◌+◌, ◌-◌, ◌*◌, ◌/◌, ◌%◌, ◌^◌, ◌<◌, ◌≤◌, Bool, true, false, cond, not, ◌&&◌, ◌||◌, eqb, ltb, leb, List, [], ◌∷◌, ◌++◌, ℤ, pos, negsuc, decimal, sym, refl, ap, ◌∙◌, subst, ⊎_elim, append_assoc, append-nil, arith}
 use lib.Utf8.{encode}
 use Rattle.std.specs.List.{flat_map}
 use Rattle.std.specs.Char.{is_ascii_digit}
@@ -11,8 +11,7 @@ use Rattle.json_values.specs.Value.{Value, Items, Members, null, bool, int, uint
 use Rattle.json_scanner.specs.Grammar.{Blank, Character, Chars, CodeUnit, Elements, Entries, Name, Numeral, Raw, Text, Tree, Trees, nil, snoc, plain, simple}
 use Rattle.json_scanner.specs.Grammar as g
 use Rattle.json_writer.specs.Back.{Letter, Letters, Small, Writable, WritableItems, WritableMembers, WritesJson, marked, members_from, number_tree, tree_of, trees_from}
-use Rattle.json_writer.specs.Back as back
-use Rattle.json_writer.specs.Compact.{compact, control_escape, escaped, hex_digit, items_text, literal, members_text, more_items, more_members, quoted, short_letter, unit_escape}
+use Rattle.json_writer.specs.Compact.{compact, control_escape, escaped, hex_digit, items_text, members_text, more_items, more_members, quoted, short_letter, unit_escape}
 
 -- ---- numbers
 

@@ -1,10 +1,8 @@
 -- What an entry of a table means, by those below it.
-use Rattle.std.proofs.Common.{◌≡◌, ℕ, zero, suc, ◌+◌, ◌-◌, ◌<◌, ◌≤◌, min, Bool, true, false, List, [], ◌∷◌, ◌++◌, length, get_or, take, drop, ℤ, codes, decimal, sym, refl, ap, ◌∙◌, ⊎_elim, append_assoc, arith, drop_of_length-le, length-take}
-use Rattle.std.proofs.lemmas.List.{take_all, take_more, take-take, take-append-drop, get_or-take, get_or_at, drop-take, length-take-le, length_push}
-use Rattle.std.proofs.lemmas.Bool.{cases_lt}
+use Rattle.std.proofs.Common.{◌≡◌, ℕ, zero, suc, ◌+◌, ◌<◌, ◌≤◌, min, Bool, true, false, List, [], ◌∷◌, ◌++◌, length, get_or, take, ℤ, codes, decimal, sym, refl, ap, ◌∙◌, arith}
 use Rattle.std.specs.Fmt.{signed_decimal}
 use Rattle.json_values.specs.Value.{list, map}
-use Rattle.json_values.specs.Meaning.{Row, no_row, no_entry, children, items_of, meaning, members_of, part_of, row_of, rows_of, value_at}
+use Rattle.json_values.specs.Meaning.{Row, no_row, no_entry, items_of, meaning, members_of, part_of, rows_of, value_at}
 use Rattle.json_values.specs.declared.parts.Part.{Part}
 use Rattle.json_values.specs.declared.parts.Source.{Source}
 use Rattle.json_values.specs.declared.table.Cell.{Cell}

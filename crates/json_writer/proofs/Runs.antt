@@ -1,15 +1,11 @@
 -- Rows and texts written one after another.
-use Rattle.std.proofs.Common.{◌≡◌, ℕ, ◌+◌, ◌-◌, ◌<◌, ◌≤◌, min, Bool, true, false, cond, ltb, List, [], ◌∷◌, ◌++◌, length, get_or, take, drop, sym, refl, ap, ◌∙◌, append_assoc, append-nil, arith}
+use Rattle.std.proofs.Common.{◌≡◌, ℕ, ◌+◌, ◌-◌, ◌<◌, ◌≤◌, Bool, true, false, cond, ltb, List, [], ◌∷◌, ◌++◌, length, get_or, take, sym, refl, ap, ◌∙◌, append_assoc, append-nil, arith}
 use Rattle.std.specs.List.{flat_map}
-use Rattle.std.proofs.lemmas.List.{flat_map_more, take_all, take_more, take-take, take_at, get_or-take, get_or_at, take-append-le, take-append-drop, length-take-le}
+use Rattle.std.proofs.lemmas.List.{flat_map_more, take_all, take_more}
 use Rattle.std.proofs.lemmas.List.Edits.{between_more, between_none, length-between}
 use Rattle.std.proofs.lemmas.Bool.{ltb-true, ltb-false}
-use Rattle.json_values.specs.Value.{Value, list, map}
-use Rattle.json_values.specs.Meaning.{Row, no_row, no_entry, children, items_of, meaning, members_of, row_of, rows_of, value_at}
-use Rattle.json_values.specs.declared.parts.Source.{Source}
-use Rattle.json_values.specs.declared.table.Entry.{Entry}
-use Rattle.json_values.specs.declared.table.Span.{Span}
-use Rattle.json_values.proofs.Rows.{rows_of-length, rows_push, rows_stay}
+use Rattle.json_values.specs.Value.{list, map}
+use Rattle.json_values.specs.Meaning.{Row, no_row, items_of, members_of}
 use Rattle.json_writer.specs.Compact.{compact, escaped, items_text, members_text, more_items, more_members, quoted}
 use Rattle.json_writer.specs.Rows.{comma_at, key_text, row_text, rows_between, run_text}
 

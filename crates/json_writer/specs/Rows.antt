@@ -1,5 +1,5 @@
 -- What a run of a table's rows is written as.
-use Rattle.std.specs.Prelude.{ℕ, ◌-◌, Bool, true, false, cond, List, [], ◌∷◌, ◌++◌, take, drop, nat_lt}
+use Rattle.std.specs.Prelude.{ℕ, ◌-◌, Bool, cond, List, [], ◌∷◌, ◌++◌, take, drop, nat_lt}
 use Rattle.std.specs.List.{flat_map}
 use Rattle.json_values.specs.Meaning.{Row}
 use Rattle.json_writer.specs.Compact.{compact, quoted}

@@ -1,4 +1,4 @@
-use Rattle.std.proofs.Common.{◌≡◌, ◌∷◌, ◌++◌, take, vec_items}
+use Rattle.std.proofs.Common.{◌≡◌, ◌++◌, take, vec_items}
 use Rattle.std.specs.List.{flat_map}
 use Rattle.json_writer.specs.Compact.{escaped}
 use Rattle.json_writer.proofs.strings.push_quoted.Given as goal

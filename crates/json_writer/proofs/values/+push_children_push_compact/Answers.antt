@@ -1,8 +1,8 @@
-use Rattle.std.proofs.Common.{◌≡◌, ◌<◌, [], ◌∷◌, ◌++◌, length, get_or, vec_items, sym, ap, ◌∙◌, append-nil, arith, w64, SFits, rules}
+use Rattle.std.proofs.Common.{◌<◌, [], ◌∷◌, ◌++◌, length, vec_items, sym, ap, ◌∙◌, append-nil, arith, w64, SFits, rules}
 use Rattle.std.specs.Fmt.{signed_decimal}
 use Rattle.std.proofs.lemmas.Int.{to_z-of_z}
 use Rattle.json_values.proofs.Rows.{rows_of-length}
-use Rattle.json_values.specs.Meaning.{no_entry, rows_of}
+use Rattle.json_values.specs.Meaning.{rows_of}
 use Rattle.json_values.specs.Stored.{texts_of}
 use Rattle.json_writer.specs.Compact.{quoted}
 use Rattle.json_writer.specs.Rows.{key_text}

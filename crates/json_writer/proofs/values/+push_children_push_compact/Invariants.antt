@@ -1,4 +1,4 @@
-use Rattle.std.proofs.Common.{◌≡◌, ◌+◌, ◌*◌, min, ◌++◌, vec_items}
+use Rattle.std.proofs.Common.{◌≡◌, ◌+◌, ◌*◌, ◌++◌, vec_items}
 use Rattle.json_values.specs.Meaning.{rows_of}
 use Rattle.json_values.specs.Stored.{texts_of}
 use Rattle.json_writer.specs.Rows.{rows_between, run_text}

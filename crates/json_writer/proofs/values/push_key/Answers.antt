@@ -1,4 +1,4 @@
-use Rattle.std.proofs.Common.{◌≡◌, Bool, cond, [], ◌∷◌, ◌++◌, vec_items, sym, ap, ◌∙◌}
+use Rattle.std.proofs.Common.{[], ◌∷◌, ◌++◌, vec_items, sym, ap, ◌∙◌}
 use Rattle.json_values.specs.Meaning.{part_of}
 use Rattle.json_values.specs.Stored.{texts_of}
 use Rattle.json_writer.specs.Compact.{quoted}

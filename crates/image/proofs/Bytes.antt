@@ -1,5 +1,5 @@
 -- The bytes of images are bytes, and the first of them is a value's command.
-use Rattle.std.proofs.Common.{◌≡◌, ℕ, ◌%◌, ◌<◌, Bool, true, false, ◌&&◌, eqb, ltb, List, [], ◌∷◌, ◌++◌, length, refl, ap, ◌∙◌, arith, w64, of_z}
+use Rattle.std.proofs.Common.{◌≡◌, ℕ, ◌<◌, true, false, eqb, ltb, List, [], ◌∷◌, ◌++◌, length, refl, arith, w64, of_z}
 use Rattle.image.specs.Decode.{octets}
 use Rattle.image.specs.Image.{image, items_image, members_image, old_image, scalar_image, scope_image}
 use Rattle.image.specs.Typed.{Items, Members, Octets, OldSelf, Proper, ProperItems, ProperMembers, ProperOld, ProperScalar, ProperScope, Scalar, Scope, Typed, absent, bool, bytes, duration, empty, int, item, items_count, list, map, member, members_count, no_items, no_members, null, plain, scalar, some, text, uint}

@@ -1,12 +1,12 @@
 -- The laws of images.
-use Rattle.std.proofs.Common.{◌≡◌, ℕ, zero, suc, ◌+◌, ◌<◌, ◌≤◌, Bool, true, false, cond, eqb, List, [], ◌∷◌, ◌++◌, length, Some, None, Option, sym, refl, ap, ◌∙◌, subst, append_assoc, append-nil, arith, length-append}
+use Rattle.std.proofs.Common.{◌≡◌, ℕ, ◌≤◌, Bool, true, false, cond, eqb, List, [], ◌∷◌, ◌++◌, length, Some, None, sym, refl, ap, ◌∙◌, subst, append-nil, arith, length-append}
 use Rattle.image.proofs.Bytes.{image_begins, scope-octets, tested, untested}
 use Rattle.image.proofs.Opts.{if_then, mapped_some, none_some, some_same, then_some}
 use Rattle.image.proofs.Runs.{Written, octets_behind, run_reads, run-written}
-use Rattle.image.specs.Decode.{Decoded, Run, decoded, decoded_old, decoded_optional, decoded_scope, ended, octets, only, run, running, scope, scope_of, then, whole}
-use Rattle.image.specs.Image.{image, items_image, old_image, scope_image}
+use Rattle.image.specs.Decode.{Decoded, decoded, decoded_old, decoded_optional, decoded_scope, ended, octets, only, run, running, scope, scope_of, then, whole}
+use Rattle.image.specs.Image.{image, old_image, scope_image}
 use Rattle.image.specs.Laws.{Decodes, DecodesScopes, PrefixCode}
-use Rattle.image.specs.Typed.{Items, Octets, OldSelf, Proper, ProperItems, ProperOld, ProperScope, Scope, Typed, absent, empty, item, items_count, no_items, plain, some}
+use Rattle.image.specs.Typed.{Items, Octets, OldSelf, Proper, ProperOld, ProperScope, Scope, Typed, absent, empty, item, no_items, plain, some}
 use Rattle.std.proofs.lemmas.Bool.{eqb-true}
 use Rattle.std.specs.Option.{option_map}
 

@@ -1,5 +1,5 @@
 -- Items one after another, and members as items.
-use Rattle.std.proofs.Common.{◌≡◌, ℕ, zero, suc, ◌+◌, ◌*◌, ◌<◌, ◌≤◌, Bool, true, false, cond, List, [], ◌∷◌, ◌++◌, length, Some, None, Option, Ordering, Less, Equal, Greater, sym, refl, ap, ◌∙◌, subst, append_assoc, arith}
+use Rattle.std.proofs.Common.{◌≡◌, ℕ, zero, suc, ◌+◌, ◌*◌, ◌≤◌, true, cond, List, ◌++◌, Some, None, Option, Ordering, Less, Equal, Greater, sym, refl, ap, ◌∙◌, subst, append_assoc, arith}
 use Rattle.image.proofs.Opts.{if_then, mapped_some, none_some, some_same}
 use Rattle.image.specs.Decode.{above, first, later, paired, paired_value, scalar_text, text_of}
 use Rattle.image.specs.Image.{image, items_image, members_image, scalar_image}

@@ -1,11 +1,11 @@
 -- Runs of values are decoded as they were written.
-use Rattle.std.proofs.Common.{◌≡◌, ℕ, zero, suc, ◌+◌, ◌*◌, ◌^◌, ◌<◌, ◌≤◌, true, false, List, [], ◌∷◌, ◌++◌, length, Some, None, Option, sym, refl, ap, ◌∙◌, subst, append_assoc, append-nil, arith, length-append}
+use Rattle.std.proofs.Common.{◌≡◌, ℕ, zero, suc, ◌+◌, ◌*◌, ◌^◌, ◌<◌, ◌≤◌, true, false, List, ◌++◌, length, Some, None, sym, refl, ap, ◌∙◌, subst, append_assoc, append-nil, arith, length-append}
 use Rattle.image.proofs.Heads.{ProperHead, behold, head_image, head_read, head_written}
 use Rattle.image.proofs.Opts.{mapped_some, none_some, some_same, then_some}
 use Rattle.image.proofs.Rows.{cut, cut_image, first_join, flat, flat_count, flat_image, flat_proper, join, join_count, join_image, join_proper, later_join, paired_flat, paired_is}
-use Rattle.image.specs.Decode.{Head, items, lone, members, Run, Seen, first, gathered, head_of, later, paired, parts, run, running, seen, then}
+use Rattle.image.specs.Decode.{Head, items, lone, members, Run, first, gathered, head_of, later, paired, parts, run, running, seen, then}
 use Rattle.image.specs.Image.{image, items_image, members_image}
-use Rattle.image.specs.Typed.{Items, Members, Octets, Proper, ProperItems, Typed, bool, bytes, duration, int, item, items_count, list, map, members_count, no_items, null, scalar, text, uint}
+use Rattle.image.specs.Typed.{Items, Octets, Proper, ProperItems, Typed, bool, bytes, duration, int, item, items_count, list, map, members_count, no_items, null, scalar, text, uint}
 use Rattle.std.proofs.ByRecursion.{All-drop}
 use Rattle.std.proofs.lemmas.List.{drop_at}
 use Rattle.std.specs.Option.{option_map}

@@ -1,8 +1,8 @@
 -- A text is written in two steps: its command with the length, and its bytes.
-use Rattle.std.proofs.Common.{◌≡◌, ℕ, ◌+◌, ◌^◌, ◌<◌, ◌≤◌, Bool, true, false, cond, ◌&&◌, ltb, leb, List, [], ◌∷◌, length, sym, refl, ap, ◌∙◌, add-zero, arith}
+use Rattle.std.proofs.Common.{◌≡◌, ℕ, ◌+◌, ◌^◌, ◌<◌, Bool, true, false, cond, ltb, List, [], ◌∷◌, length, sym, refl, ap, ◌∙◌, add-zero, arith}
 use Rattle.image.specs.Writing.{front, sized, sized_fits}
 use Rattle.std.proofs.lemmas.Bool.{and_from, and_left, and_right, lt-leb, lt-ltb, le-leb, le-ltb}
-use Rattle.writer.proofs.Puts.{Went, put_none, stayed, stayed_then, went, went_then}
+use Rattle.writer.proofs.Puts.{Went, put_none, stayed_then, went, went_then}
 use Rattle.writer.specs.Written.{be4, fits, moved, put, written}
 
 same_either : {A : Type 0} (t : Bool) (x y : A) → x ≡ y → y ≡ cond t x y

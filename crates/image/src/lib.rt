@@ -1,4 +1,6 @@
 // Images of typed values: their commands, and how they are written.
+#![tactic(auto)]
+
 pub mod command;
 pub mod write;
 

@@ -16,14 +16,23 @@ fn scalars(rt: HostRuntime) -> Result<(), Fail> {
     write_bytes(&mut writer, b"\xff")?;
     write_duration(&mut writer, 1000000000)?;
     assert_eq!(rt; writer.position(), 43);
-    assert_eq!(rt; &out[0..3], b"\x00\x01\x02");
-    assert_eq!(rt; &out[3..12], b"\x03\xff\xff\xff\xff\xff\xff\xff\xfe");
-    assert_eq!(rt; &out[12..21], b"\x04\x01\x02\x03\x04\x05\x06\x07\x08");
+    assert_eq!(rt; &out[0..3], b"\x00\x01\x02".as_slice());
+    assert_eq!(rt;
+        &out[3..12],
+        b"\x03\xff\xff\xff\xff\xff\xff\xff\xfe".as_slice()
+    );
+    assert_eq!(rt;
+        &out[12..21],
+        b"\x04\x01\x02\x03\x04\x05\x06\x07\x08".as_slice()
+    );
     assert_eq!(rt;
         &out[21..34],
-        b"\x06\x00\x00\x00\x02ab\x07\x00\x00\x00\x01\xff"
+        b"\x06\x00\x00\x00\x02ab\x07\x00\x00\x00\x01\xff".as_slice()
     );
-    assert_eq!(rt; &out[34..44], b"\x09\x00\x00\x00\x00\x3b\x9a\xca\x00\x07");
+    assert_eq!(rt;
+        &out[34..44],
+        b"\x09\x00\x00\x00\x00\x3b\x9a\xca\x00\x07".as_slice()
+    );
     Ok(())
 }
 
@@ -42,9 +51,12 @@ fn scope_with_optional(rt: HostRuntime) -> Result<(), Fail> {
     assert_eq!(rt; writer.position(), 21);
     assert_eq!(rt;
         &out[0..12],
-        b"\x10\x0b\x00\x00\x00\x01\x06\x00\x00\x00\x01k"
+        b"\x10\x0b\x00\x00\x00\x01\x06\x00\x00\x00\x01k".as_slice()
     );
-    assert_eq!(rt; &out[12..22], b"\x0a\x00\x00\x00\x00\x11\x0d\x00\x05\x07");
+    assert_eq!(rt;
+        &out[12..22],
+        b"\x0a\x00\x00\x00\x00\x11\x0d\x00\x05\x07".as_slice()
+    );
     Ok(())
 }
 
@@ -57,7 +69,7 @@ fn short_buffers(rt: HostRuntime) {
     assert_eq!(rt; write_text(&mut writer, b"abc"), Err(BufferShort));
     assert_eq!(rt; writer.position(), 5);
     assert_eq!(rt; begin_list(&mut writer, 1), Err(BufferShort));
-    assert_eq!(rt; &out[0..7], b"\x06\x00\x00\x00\x03\x07\x07");
+    assert_eq!(rt; &out[0..7], b"\x06\x00\x00\x00\x03\x07\x07".as_slice());
 }
 
 #[test]

@@ -3,10 +3,10 @@ use Rattle.image.proofs.write.begin_list.Goals as goal
 
 pub returns : goal.returns
 returns c = record {
-  ok = c.put-four.ensures.ok;
-  at = c.put-four.ensures.at;
-  out = c.put-four.ensures.out;
-  name = c.put-four.ensures.name;
+  ok = c.put_four.ensures.ok;
+  at = c.put_four.ensures.at;
+  out = c.put_four.ensures.out;
+  name = c.put_four.ensures.name;
   prefix_code = prefix_code;
   decodes = decodes_images;
 }

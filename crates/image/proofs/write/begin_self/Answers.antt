@@ -3,9 +3,9 @@ use Rattle.image.proofs.write.begin_self.Goals as goal
 
 pub returns : goal.returns
 returns c = record {
-  ok = c.put-alone.ensures.ok;
-  at = c.put-alone.ensures.at;
-  out = c.put-alone.ensures.out;
-  name = c.put-alone.ensures.name;
+  ok = c.put_alone.ensures.ok;
+  at = c.put_alone.ensures.at;
+  out = c.put_alone.ensures.out;
+  name = c.put_alone.ensures.name;
   decodes = decodes_scopes;
 }

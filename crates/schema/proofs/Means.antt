@@ -1,17 +1,16 @@
 -- The parts, links and rules that are found by entries are those of the value.
-use Rattle.std.proofs.Common.{◌≡◌, ℕ, zero, suc, ◌+◌, ◌-◌, min, Bool, true, false, cond, List, [], ◌∷◌, ◌++◌, map as each, take, Some, None, Ok, Err, codes, Option, Result, unwrap_or, sym, refl, ap, ◌∙◌}
-use Rattle.json_values.specs.Meaning.{Row, meaning, members_of, part_of, rows_of}
-use Rattle.json_values.specs.Value.{Value, null, bool, int, uint, text, list, map}
+use Rattle.std.proofs.Common.{◌≡◌, ℕ, ◌+◌, ◌-◌, min, false, cond, List, [], ◌∷◌, ◌++◌, map as each, take, Some, None, Ok, Err, codes, Option, Result, unwrap_or, sym, refl, ap, ◌∙◌}
+use Rattle.json_values.specs.Meaning.{Row, meaning, part_of, rows_of}
+use Rattle.json_values.specs.Value.{Value}
 use Rattle.json_values.specs.declared.parts.Part.{Part}
 use Rattle.json_values.specs.declared.table.Cell.{Cell}
 use Rattle.json_values.specs.declared.table.Cell.TheVariants as cell
 use Rattle.json_values.specs.declared.table.Entry.{Entry}
-use Rattle.json_values.specs.declared.table.Span.{Span}
-use Rattle.schema.specs.Entries.{alone, cell_in, elements_at, elements_cell, flag_at, format_at, is_map_at, key_in, linked_at, members_at, members_cell, numbers_in, object_at, open_cell, or_nowhere, part_at, rules_at, run, targets_at, text_at, text_cell, true_cell, value_in}
+use Rattle.schema.specs.Entries.{alone, cell_in, elements_at, elements_cell, flag_at, format_at, is_map_at, key_in, linked_at, members_at, members_cell, numbers_in, object_at, open_cell, or_nowhere, part_at, rules_at, targets_at, text_at, text_cell, true_cell, value_in}
 use Rattle.schema.specs.Laws.{PartsMean, rule_said}
 use Rattle.schema.specs.Parts.{all_items, all_keys, all_members, elements, flag, format_of, is_map, is_true, linked, linked_by, literally_true, members, named_format, only_object, open_to, order, part, property_names, single, text_of, then}
 use Rattle.schema.specs.RuleEntries.{and_then, cell_under, free_flag, free_part, needed_part, rule_at}
-use Rattle.schema.specs.Rules.{WrittenRule, free_bool, free_text, needed_text, rule_means, rule_of, rules_of}
+use Rattle.schema.specs.Rules.{WrittenRule, free_bool, free_text, needed_text, rule_of, rules_of}
 use Rattle.schema.specs.declared.format.SchemaFormat.TheVariants as format
 use Rattle.schema.specs.declared.group.Group.{Group}
 use Rattle.schema.specs.declared.group.Group.TheVariants.{Properties, Items, Additional, AllOf, OneOf, AnyOf}

@@ -1,5 +1,5 @@
 -- Searches from entry to entry.
-use Rattle.std.proofs.Common.{◌≡◌, ℕ, zero, suc, ◌+◌, ◌-◌, ◌<◌, ◌≤◌, Bool, true, false, cond, List, Some, None, Option, sym, refl, ap, ◌∙◌, arith}
+use Rattle.std.proofs.Common.{◌≡◌, ℕ, suc, ◌+◌, ◌-◌, ◌<◌, ◌≤◌, true, false, cond, List, Some, None, ap, ◌∙◌, arith}
 use Rattle.schema.specs.Entries.{seek}
 use Rattle.std.specs.Str.{bytes_eq}
 

@@ -1,16 +1,15 @@
 -- What the entries of a schema mean.
-use Rattle.std.proofs.Common.{◌≡◌, ℕ, zero, suc, ◌+◌, ◌-◌, ◌<◌, ◌≤◌, min, Bool, true, false, cond, List, [], ◌∷◌, map as each, length, get_or, take, drop, Some, None, Option, sym, refl, ap, ◌∙◌, ⊎_elim, arith, drop-cons}
-use Rattle.json_values.specs.Meaning.{Row, no_row, no_entry, children, items_of, key_at, meaning, members_of, part_of, row_of, rows_of, value_at}
-use Rattle.json_values.specs.Value.{Value, Items, Members, null, bool, int, uint, text, list, map, no_item, item, no_member, member}
-use Rattle.json_values.specs.declared.parts.Part.{Part}
+use Rattle.std.proofs.Common.{◌≡◌, ℕ, zero, suc, ◌+◌, ◌-◌, ◌<◌, ◌≤◌, min, Bool, true, false, cond, List, ◌∷◌, map as each, length, get_or, take, drop, Some, Option, sym, refl, ap, ◌∙◌, ⊎_elim, arith, drop-cons}
+use Rattle.json_values.specs.Meaning.{Row, no_row, no_entry, children, items_of, meaning, members_of, rows_of}
+use Rattle.json_values.specs.Value.{Value, list, map}
 use Rattle.json_values.specs.declared.table.Cell.{Cell}
 use Rattle.json_values.specs.declared.table.Cell.TheVariants as cell
 use Rattle.json_values.specs.declared.table.Entry.{Entry}
 use Rattle.json_values.specs.declared.table.Span.{Span}
 use Rattle.json_values.proofs.Entries.{children_are, row_is, value_is}
 use Rattle.json_values.proofs.Rows.{rows_of-length}
-use Rattle.schema.specs.Entries.{below, cell_in, elements_at, elements_cell, key_in, members_at, members_cell, numbers_in, object_at, open_cell, or_nowhere, part_at, run, seek, seek_in, text_cell, true_cell, value_in}
-use Rattle.schema.specs.Parts.{all_items, all_keys, all_members, elements, is_true, items_list, literally_true, member_in, member_keys, member_values, members, only_object, open_to, part, text_of, then}
+use Rattle.schema.specs.Entries.{below, cell_in, key_in, members_cell, numbers_in, part_at, run, seek, seek_in, value_in}
+use Rattle.schema.specs.Parts.{items_list, member_in, member_keys, member_values, part, then}
 use Rattle.std.proofs.lemmas.List.{get_or_past}
 use Rattle.std.proofs.lemmas.Bool.{cases_lt}
 use Rattle.std.specs.Option.{option_map}

@@ -1,5 +1,5 @@
 -- The parts of a schema, which is a JSON value. One that is not an object has no parts.
-use Rattle.std.specs.Prelude.{ℕ, Bool, true, false, cond, not, List, [], ◌∷◌, Some, None, codes, Option}
+use Rattle.std.specs.Prelude.{ℕ, Bool, true, false, cond, List, [], ◌∷◌, Some, None, codes, Option}
 use Rattle.json_values.specs.Value.{Value, Items, Members, null, bool, int, uint, text, list, map, no_item, item, no_member, member}
 use Rattle.schema.specs.declared.format.SchemaFormat.{SchemaFormat}
 use Rattle.schema.specs.declared.format.SchemaFormat.TheVariants as format

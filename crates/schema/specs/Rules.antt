@@ -3,9 +3,7 @@ use Rattle.std.specs.Prelude.{ℕ, Bool, List, map as each, Some, None, codes, O
 use Rattle.json_values.specs.Meaning.{part_of}
 use Rattle.json_values.specs.Value.{Value, null, bool, int, uint, text, list, map}
 use Rattle.json_values.specs.declared.parts.Part.{Part}
-use Rattle.json_values.specs.declared.parts.Source.{Source}
-use Rattle.schema.specs.Parts.{all_items, elements, members, part, then}
-use Rattle.schema.specs.declared.rule.InvalidRule.{InvalidRule}
+use Rattle.schema.specs.Parts.{all_items, elements, part, then}
 use Rattle.schema.specs.declared.rule.Rule.{Rule}
 use Rattle.std.specs.Option.{option_map}
 

@@ -1,4 +1,4 @@
-use Rattle.std.proofs.Common.{get_or, sym, ap}
+use Rattle.std.proofs.Common.{sym, ap}
 use Rattle.std.proofs.lemmas.List.{get_or_past}
 use Rattle.json_values.specs.Meaning.{no_entry}
 use Rattle.json_values.specs.declared.table.Entry.{Entry}

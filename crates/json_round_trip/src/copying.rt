@@ -5,11 +5,11 @@ ghost use Rattle.json_values.specs.Stored.{texts_of, written};
 ghost use Rattle.json_round_trip.specs.Copied.{Copies, Leaves, no_memory, refused};
 ghost use Rattle.std.specs.Prelude.{◌≡◌};
 
+use json_reader::Reader;
+use json_reader::fault::Fault;
 use json_values::parts::Source;
 use json_values::store::Store;
 use json_values::table::Table;
-use json_reader::Reader;
-use json_reader::fault::Fault;
 use json_writer::{View, push_compact};
 use std::alloc::{AllocError, Global};
 

@@ -1,4 +1,6 @@
 // JSON values written as compact text and read back.
+#![tactic(auto)]
+
 mod copying;
 mod laws;
 

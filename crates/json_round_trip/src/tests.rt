@@ -1,9 +1,9 @@
 // A text that is read, copied and written.
 use super::copy_value;
+use json_reader::Reader;
 use json_values::parts::Source;
 use json_values::store::Store;
 use json_values::table::Table;
-use json_reader::Reader;
 use json_writer::{View, push_compact};
 use std::test::Fail;
 
@@ -49,7 +49,7 @@ fn read_copied_and_written(rt: HostRuntime) -> Result<(), Fail> {
     push_compact(heap, copied, copy, &mut out)?;
     assert_eq!(rt;
         out.as_slice(),
-        b"{\"a\":\"\xc3\xa4/\\n\xf0\x9f\x98\x80\",\"b\":[-9223372036854775808,18446744073709551615,true,{}]}"
+        b"{\"a\":\"\xc3\xa4/\\n\xf0\x9f\x98\x80\",\"b\":[-9223372036854775808,18446744073709551615,true,{}]}".as_slice()
     );
     Ok(())
 }

@@ -1,9 +1,9 @@
 -- What is spelled is read.
-use Rattle.std.proofs.Common.{◌≡◌, ℕ, zero, suc, ◌+◌, ◌-◌, ◌*◌, ◌^◌, ◌<◌, ◌≤◌, Bool, true, false, cond, ◌&&◌, ◌||◌, eqb, leb, List, [], ◌∷◌, ◌++◌, map, length, pos, neg_ℤ, Some, None, codes, Option, sym, refl, ap, ◌∙◌, subst, append_assoc, arith, length-append}
+use Rattle.std.proofs.Common.{◌≡◌, ℕ, zero, suc, ◌+◌, ◌-◌, ◌*◌, ◌^◌, ◌<◌, ◌≤◌, true, false, cond, ◌&&◌, eqb, leb, List, [], ◌∷◌, ◌++◌, map, length, pos, neg_ℤ, Some, None, codes, Option, sym, refl, ap, ◌∙◌, append_assoc, arith, length-append}
 use Rattle.std.proofs.lemmas.Int.Digits.{number_after_ge}
 use Rattle.std.proofs.lemmas.Slice.Eq.{bytes_eq-Decides}
 use Rattle.std.proofs.lemmas.List.{append-nil}
-use Rattle.std.proofs.lemmas.Bool.{ne_eqb, and_from, le-leb, false≢true}
+use Rattle.std.proofs.lemmas.Bool.{and_from, le-leb, false≢true}
 use Rattle.std.proofs.lemmas.Bool.Decides.{nat_tests}
 use Rattle.std.specs.Option.{option_map}
 use Rattle.std.specs.Char.{is_ascii_digit}
@@ -12,14 +12,13 @@ use Rattle.std.specs.List.{AllByRecursion as All}
 use Rattle.std.specs.Str.{bytes_eq}
 use Rattle.rule_syntax.specs.declared.rule.Operator.{Operator}
 use Rattle.rule_syntax.specs.declared.rule.Operator.TheVariants.{Eq, Ne, Lt, Le, Gt, Ge}
-use Rattle.rule_syntax.specs.Syntax.{Term, int, bool, null, path, Compared, name_byte, name_bytes, proper_name, onto, names_of, every_name, numeric, magnitude, magnitude_from, number_of, constant_of, operand_of, unspaced, leading_word, behind_word, leading_operand, leading_operator, leading_comparison, rule_from, parsed}
+use Rattle.rule_syntax.specs.Syntax.{Term, int, bool, null, path, Compared, name_byte, proper_name, onto, names_of, every_name, numeric, magnitude, magnitude_from, constant_of, operand_of, unspaced, leading_word, behind_word, leading_operand, leading_operator, leading_comparison, rule_from, parsed}
 use Rattle.rule_syntax.specs.Grammar.{Written, plain, minus, truth, falsehood, nothing, named, digits_text, pointed_text, names_text, written_text, says, ProperWritten, Spaced, spaces, spaced_text, operator_text, Phrase, phrase_text, phrase_says, ProperPhrase, more_text, Reading, spell, rule_says, Proper}
-use Rattle.rule_syntax.proofs.Options.{not_some, some_same, cond_some, cond_none}
+use Rattle.rule_syntax.proofs.Options.{cond_some, cond_none}
 use Rattle.rule_syntax.proofs.Operands.{number_plain, operand_number, operand_path}
-use Rattle.rule_syntax.proofs.Numbers.{magnitude_some}
 use Rattle.rule_syntax.proofs.Readers.{operand_some, comparison_some}
 use Rattle.rule_syntax.proofs.Rules.{rule_end, rule_next}
-use Rattle.rule_syntax.proofs.Texts.{Stops, Each, Ends, unspaced_at, word_at, behind_at, end_ends, more_ends, operator_ends, spaces_ends, written_word, written_some, operand-begins, spaced_no_equals, name_parts, name_each, proper_each, phrase_long, more_long}
+use Rattle.rule_syntax.proofs.Texts.{Stops, Each, Ends, unspaced_at, word_at, behind_at, end_ends, more_ends, operator_ends, spaces_ends, written_word, operand-begins, spaced_no_equals, name_parts, name_each, proper_each, more_long}
 
 -- ---- names
 

@@ -1,5 +1,5 @@
 -- The reader and the grammar agree.
-use Rattle.std.proofs.Common.{◌≡◌, ℕ, ◌+◌, ◌*◌, ◌≤◌, List, ◌∷◌, map, length, Some, sym, ap, ◌∙◌, arith, length-append}
+use Rattle.std.proofs.Common.{◌≡◌, ℕ, ◌+◌, ◌*◌, ◌≤◌, List, ◌∷◌, length, Some, sym, ap, ◌∙◌, arith, length-append}
 use Rattle.std.proofs.lemmas.List.{length-map}
 use Rattle.rule_syntax.specs.Syntax.{Compared, parsed}
 use Rattle.rule_syntax.specs.Grammar.{phrase_text, phrase_says, more_text, Spells, RulesRead}

@@ -1,11 +1,11 @@
 -- What is read from the front of a text, and where.
-use Rattle.std.proofs.Common.{◌≡◌, ℕ, ◌+◌, ◌-◌, ◌<◌, ◌≤◌, Bool, true, false, cond, List, [], ◌∷◌, ◌++◌, length, take, drop, Some, None, Option, sym, refl, ap, ◌∙◌, subst, append_assoc, arith, length-append}
+use Rattle.std.proofs.Common.{◌≡◌, ℕ, ◌-◌, ◌≤◌, List, [], ◌∷◌, ◌++◌, length, take, drop, Some, None, Option, sym, refl, ap, ◌∙◌, subst, append_assoc, arith, length-append}
 use Rattle.std.proofs.lemmas.List.{take-append-drop, take_at, drop_at}
 use Rattle.std.specs.Option.{option_map}
 use Rattle.std.specs.List.{prefix_len}
 use Rattle.rule_syntax.specs.declared.rule.Operator.{Operator}
 use Rattle.rule_syntax.specs.Syntax.{Term, Compared, Within, Lies, then, word_byte, unspaced, leading_word, behind_word, operand_of, leading_operand, begins, operators, operator_of, leading_operator, leading_comparison}
-use Rattle.rule_syntax.proofs.Options.{not_some, some_same, then_some, mapped_some, cond_some}
+use Rattle.rule_syntax.proofs.Options.{not_some, then_some, mapped_some, cond_some}
 
 -- ---- where a text ends another
 

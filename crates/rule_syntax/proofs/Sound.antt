@@ -1,7 +1,7 @@
 -- What is read is spelled.
-use Rattle.std.proofs.Common.{◌≡◌, ℕ, zero, suc, ◌+◌, ◌-◌, ◌*◌, ◌^◌, ◌<◌, ◌≤◌, Bool, true, false, cond, ◌&&◌, ◌||◌, eqb, leb, List, [], ◌∷◌, ◌++◌, map, length, take, drop, ℤ, pos, neg_ℤ, Some, None, codes, Option, sym, refl, ap, ◌∙◌, subst, append_assoc, one-add, arith}
+use Rattle.std.proofs.Common.{◌≡◌, ℕ, zero, suc, ◌+◌, ◌-◌, ◌*◌, ◌^◌, ◌<◌, ◌≤◌, Bool, true, false, cond, eqb, leb, List, [], ◌∷◌, ◌++◌, map, length, drop, ℤ, pos, neg_ℤ, Some, None, codes, Option, sym, refl, ap, ◌∙◌, subst, append_assoc, one-add, arith}
 use Rattle.std.proofs.lemmas.Slice.Eq.{bytes_eq-Decides}
-use Rattle.std.proofs.lemmas.List.{append-nil, take-append-drop, length-map}
+use Rattle.std.proofs.lemmas.List.{take-append-drop, length-map}
 use Rattle.std.proofs.lemmas.Bool.{eqb-true, and_parts, false≢true}
 use Rattle.std.proofs.lemmas.Bool.Decides.{nat_tests}
 use Rattle.std.specs.Option.{option_map}
@@ -10,9 +10,8 @@ use Rattle.std.specs.Int.Digits.{number_from_digits, number_from_digits_after}
 use Rattle.std.specs.List.{prefix_len, AllByRecursion as All}
 use Rattle.std.specs.Str.{bytes_eq}
 use Rattle.rule_syntax.specs.declared.rule.Operator.{Operator}
-use Rattle.rule_syntax.specs.declared.rule.Operator.TheVariants.{Eq, Ne, Lt, Le, Gt, Ge}
 use Rattle.rule_syntax.specs.Syntax.{Term, int, bool, null, path, Compared, then, word_byte, proper_name, onto, names_of, every_name, numeric, magnitude, magnitude_from, number_of, constant_of, path_of, or_else, operand_of, unspaced, leading_word, behind_word, leading_operand, begins, operators, operator_of, leading_operator, leading_comparison, behind_and, rule_from, parsed, before_dot, past_dot}
-use Rattle.rule_syntax.specs.Grammar.{Written, plain, minus, truth, falsehood, nothing, named, digits_text, pointed_text, names_text, written_text, says, ProperWritten, Spaced, spaces, spaced_text, operator_text, Phrase, phrase_text, phrase_says, ProperPhrase, more_text, Reading, spell, rule_says, Proper, Spells}
+use Rattle.rule_syntax.specs.Grammar.{Written, plain, minus, truth, falsehood, nothing, named, digits_text, pointed_text, names_text, written_text, says, ProperWritten, Spaced, spaces, spaced_text, operator_text, Phrase, phrase_text, phrase_says, ProperPhrase, more_text, Spells}
 use Rattle.rule_syntax.proofs.Options.{not_some, some_same, then_some, mapped_some, cond_some, cond_none}
 use Rattle.rule_syntax.proofs.Names.{names_split, more_names}
 use Rattle.rule_syntax.proofs.Operands.{magnitude-below, operand_number, operand_other}

@@ -1,9 +1,9 @@
 -- A text is read in one way.
-use Rattle.std.proofs.Common.{◌≡◌, ℕ, ◌+◌, ◌<◌, Bool, eqb, List, [], ◌∷◌, ◌++◌, length, sym, refl, ap, ◌∙◌, subst, append_assoc, arith}
+use Rattle.std.proofs.Common.{◌≡◌, ℕ, ◌+◌, ◌<◌, eqb, List, [], ◌∷◌, ◌++◌, length, sym, refl, ap, ◌∙◌, append_assoc, arith}
 use Rattle.std.proofs.lemmas.List.{length-replicate}
 use Rattle.std.specs.List.{prefix_len, AllByRecursion as All}
 use Rattle.rule_syntax.specs.declared.rule.Operator.{Operator}
-use Rattle.rule_syntax.specs.Syntax.{Term, word_byte, unspaced, leading_word, behind_word, operand_of, leading_operator}
+use Rattle.rule_syntax.specs.Syntax.{word_byte, unspaced, leading_word, behind_word, operand_of, leading_operator}
 use Rattle.rule_syntax.specs.Grammar.{Written, plain, minus, truth, falsehood, nothing, named, digits_text, written_text, says, ProperWritten, Spaced, spaces, spaced_text, operator_text, Phrase, phrase_text, ProperPhrase, more_text, Reading, spell, Proper}
 use Rattle.rule_syntax.proofs.Options.{some_same}
 use Rattle.rule_syntax.proofs.Texts.{Stops, Each, Ends, space, leading_at, each_space, unspaced_at, word_at, behind_at, operator_ends, more_ends, spaces_ends, written_word, operand-begins, spaced_no_equals}

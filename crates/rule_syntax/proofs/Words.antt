@@ -1,9 +1,9 @@
 -- Words and spaces, one byte at a time.
-use Rattle.std.proofs.Common.{◌≡◌, ℕ, zero, suc, ◌+◌, ◌<◌, ◌≤◌, Bool, true, false, cond, eqb, List, [], ◌∷◌, ◌++◌, length, get_or, take, drop, sym, refl, ap, ◌∙◌, one-add, arith}
+use Rattle.std.proofs.Common.{◌≡◌, ℕ, ◌+◌, ◌<◌, ◌≤◌, Bool, true, false, cond, eqb, List, [], ◌∷◌, length, get_or, drop, refl, ap, ◌∙◌, one-add, arith}
 use Rattle.std.proofs.lemmas.List.Sums.{prefix_len-drop_yes, prefix_len-drop_no, prefix_len-drop_all}
 use Rattle.std.proofs.lemmas.Bool.{eq-eqb, ne_eqb}
 use Rattle.std.specs.List.{prefix_len}
-use Rattle.rule_syntax.specs.Syntax.{unspaced, leading_word, behind_word, word_byte}
+use Rattle.rule_syntax.specs.Syntax.{unspaced}
 
 pub leading_more : (p : ℕ → Bool) (s : List ℕ) (i : ℕ) → i < length s → p (get_or s i 0) ≡ true → prefix_len p s ≡ i + prefix_len p (drop i s) → prefix_len p s ≡ i + 1 + prefix_len p (drop (i + 1) s)
 leading_more p s i h t e = omega (arith, prefix_len-drop_yes p s i 0 h t)

@@ -1,6 +1,5 @@
 -- Which names the paths of a rule begin with.
 use Rattle.std.specs.Prelude.{ℕ, Bool, false, ◌||◌, List, [], ◌∷◌, Some, None, Option}
-use Rattle.std.specs.Option.{option_map}
 use Rattle.std.specs.Str.{bytes_eq}
 use Rattle.rule_syntax.specs.Syntax.{Term, int, bool, null, path, Compared, before_dot, past_dot}
 

@@ -1,4 +1,6 @@
 // The syntax of short rules: comparisons joined by `&&`.
+#![tactic(auto)]
+
 mod mention;
 mod operand;
 mod path;

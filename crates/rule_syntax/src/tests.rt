@@ -142,8 +142,11 @@ fn operands_are_told(rt: HostRuntime) -> Result<(), Fail> {
     assert!(rt; mentions(text, table.as_slice(), b"self"));
     assert!(rt; !mentions(text, table.as_slice(), b"a"));
     assert!(rt; !mentions(text, table.as_slice(), b"true"));
-    assert_eq!(rt; first_name(b"self.a.b"), Some((b"self", b"a.b")));
-    assert_eq!(rt; first_name(b"b"), Some((b"b", b"")));
+    assert_eq!(rt;
+        first_name(b"self.a.b"),
+        Some((b"self".as_slice(), b"a.b".as_slice()))
+    );
+    assert_eq!(rt; first_name(b"b"), Some((b"b".as_slice(), b"".as_slice())));
     assert_eq!(rt; first_name(b""), None);
     Ok(())
 }

@@ -1,11 +1,11 @@
-use Rattle.std.proofs.Common.{◌≡◌, ◌+◌, ◌-◌, ◌*◌, ◌<◌, ◌≤◌, true, false, length, get_or, sym, ◌∙◌, arith, rules}
+use Rattle.std.proofs.Common.{◌≡◌, ◌+◌, ◌-◌, ◌*◌, ◌<◌, true, false, length, get_or, sym, ◌∙◌, arith, rules}
 use Rattle.std.proofs.lemmas.Bool.Decides.{nat_tests}
 use Rattle.std.specs.Char.{is_ascii_digit}
 use Rattle.rule_syntax.proofs.Numbers.{magnitude_some, magnitude_more, magnitude_over, magnitude_stop, magnitude_end}
 use Rattle.rule_syntax.proofs.operand.read_magnitude.Goals as goal
 
-pub returns-then-not-is-ascii-digit : goal.returns-then-not-is-ascii-digit
-returns-then-not-is-ascii-digit c =
+pub returns-then-not-is_ascii_digit : goal.returns-then-not-is_ascii_digit
+returns-then-not-is_ascii_digit c =
     let some : 0 < length c.args.digits.now = grind (arith, nat_tests) in
     let at : c.loop-digit.digit-index < length c.args.digits.now = omega arith in
     let other : is_ascii_digit (get_or c.args.digits.now c.loop-digit.digit-index 0) ≡ false = search rules in

@@ -10,8 +10,8 @@ loop-rest-preserved c =
     let space : get_or c.loop-rest.rest.now 0 0 ≡ 32 = search rules in
     rw take_rest (c.loop-rest.invariant ∙ unspaced_more c.loop-rest.rest.now some space)
 
-pub returns-in-default : goal.returns-in-default
-returns-in-default c = sym (c.loop-rest.invariant ∙ unspaced_end c.loop-rest.rest.now (λ h e. grind (arith, nat_tests)))
+pub returns-in_default : goal.returns-in_default
+returns-in_default c = sym (c.loop-rest.invariant ∙ unspaced_end c.loop-rest.rest.now (λ h e. grind (arith, nat_tests)))
 
-pub returns-in-default·2 : goal.returns-in-default·2
-returns-in-default·2 c = sym (c.loop-rest.invariant ∙ unspaced_end c.loop-rest.rest.now (λ h e. grind (arith, nat_tests)))
+pub returns-in_default-2 : goal.returns-in_default-2
+returns-in_default-2 c = sym (c.loop-rest.invariant ∙ unspaced_end c.loop-rest.rest.now (λ h e. grind (arith, nat_tests)))

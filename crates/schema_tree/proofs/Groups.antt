@@ -1,13 +1,12 @@
 -- The nodes of a group among all that a node links to.
-use Rattle.std.proofs.Common.{◌≡◌, ℕ, zero, suc, ◌+◌, ◌-◌, ◌<◌, ◌≤◌, min, Bool, true, false, cond, ◌||◌, eqb, List, [], ◌∷◌, ◌++◌, length, get_or, take, drop, sym, refl, ap, ◌∙◌, subst, ⊎_elim, add-zero, arith, drop-cons}
+use Rattle.std.proofs.Common.{◌≡◌, ℕ, zero, suc, ◌+◌, ◌<◌, ◌≤◌, min, Bool, true, false, cond, ◌||◌, eqb, List, [], ◌∷◌, ◌++◌, length, get_or, take, drop, sym, refl, ap, ◌∙◌, subst, ⊎_elim, arith, drop-cons}
 use Rattle.json_values.specs.Value.{Value}
-use Rattle.json_values.specs.declared.table.Entry.{Entry}
 use Rattle.schema.specs.Parts.{linked, linked_by, order}
 use Rattle.schema.specs.declared.group.Group.{Group}
 use Rattle.schema.specs.declared.group.Group.TheVariants.{Properties, Items, Additional, AllOf, OneOf, AnyOf}
 use Rattle.schema_tree.proofs.Growing.{within_stays}
 use Rattle.schema_tree.specs.Nodes.{group_nodes, links_before, rank, target}
-use Rattle.schema_tree.specs.Stands.{EachStands, GroupsStand, Stands, Tables, next_nodes, size, total}
+use Rattle.schema_tree.specs.Stands.{EachStands, GroupsStand, Stands, next_nodes, size}
 use Rattle.schema_tree.specs.declared.node.Node.{Node}
 use Rattle.schema_tree.specs.declared.targets.Targets.{Targets}
 use Rattle.std.proofs.lemmas.List.{drop-drop, length-append, length-drop, length-take-le, take_all, take-append-drop}

@@ -1,5 +1,5 @@
 -- What stands in the tables stays as they grow.
-use Rattle.std.proofs.Common.{◌≡◌, ℕ, zero, suc, ◌+◌, ◌-◌, ◌≤◌, List, [], ◌∷◌, ◌++◌, map as each, length, take, drop, sym, refl, ap, ◌∙◌, subst, add-zero, add_assoc, arith}
+use Rattle.std.proofs.Common.{◌≡◌, ℕ, zero, suc, ◌+◌, ◌≤◌, List, [], ◌∷◌, ◌++◌, map as each, length, take, drop, sym, refl, ap, ◌∙◌, subst, add-zero, add_assoc, arith}
 use Rattle.json_values.specs.Value.{Value, null}
 use Rattle.json_values.specs.declared.table.Entry.{Entry}
 use Rattle.schema.specs.Laws.{rule_said}

@@ -1,22 +1,20 @@
 -- A node that was loaded stands for its schema.
-use Rattle.std.proofs.Common.{◌≡◌, ℕ, zero, suc, ◌+◌, ◌-◌, ◌≤◌, List, [], ◌∷◌, ◌++◌, map as each, length, take, drop, Some, codes, sym, refl, ap, ◌∙◌, subst, append_assoc, arith}
+use Rattle.std.proofs.Common.{◌≡◌, ℕ, zero, suc, ◌+◌, ◌≤◌, List, [], ◌∷◌, ◌++◌, map as each, length, take, drop, Some, codes, sym, refl, ap, ◌∙◌, subst, append_assoc, arith}
 use Rattle.fixed.specs.Listed.{listed}
 use Rattle.json_values.specs.Value.{Value, null}
 use Rattle.json_values.specs.declared.table.Entry.{Entry}
-use Rattle.json_values.specs.declared.table.Span.{Span}
 use Rattle.schema.proofs.Means.{each_each, parts_mean}
 use Rattle.schema.specs.Entries.{linked_at, numbers_in, rules_at, run, targets_at, value_in}
-use Rattle.schema.specs.Laws.{PartsMean, rule_said}
+use Rattle.schema.specs.Laws.{rule_said}
 use Rattle.schema.specs.Parts.{linked, linked_by}
-use Rattle.schema.specs.RuleEntries.{rule_at}
 use Rattle.schema.specs.Rules.{rules_of}
 use Rattle.schema.specs.declared.group.Group.{Group}
 use Rattle.schema.specs.declared.group.Group.TheVariants.{Properties, Items, Additional, AllOf, OneOf, AnyOf}
-use Rattle.schema_tree.proofs.Growing.{Grown, each_implies, each_length, stands_stays, within_stays}
+use Rattle.schema_tree.proofs.Growing.{Grown, each_implies, each_length, stands_stays}
 use Rattle.schema_tree.specs.Builds.{One, Run, tables}
 use Rattle.schema_tree.specs.Loads.{Loaded}
 use Rattle.schema_tree.specs.Nodes.{read_node, read_targets, target, unread_node}
-use Rattle.schema_tree.specs.Stands.{Describes, EachStands, Stands, Tables, next_nodes, size, total}
+use Rattle.schema_tree.specs.Stands.{Describes, EachStands, Stands, Tables, size, total}
 use Rattle.schema_tree.specs.Steps.{rule_entry}
 use Rattle.schema_tree.specs.declared.tree.SchemaTree.{SchemaTree}
 use Rattle.schema_tree.specs.declared.node.Node.{Node}

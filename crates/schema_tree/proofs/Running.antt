@@ -1,5 +1,5 @@
 -- Loading one schema after another.
-use Rattle.std.proofs.Common.{◌≡◌, ℕ, ◌+◌, ◌-◌, ◌≤◌, List, [], ◌∷◌, ◌++◌, map as each, length, sym, refl, ap, ◌∙◌, subst, append_assoc, arith}
+use Rattle.std.proofs.Common.{◌≡◌, ℕ, ◌+◌, ◌-◌, ◌≤◌, List, [], ◌∷◌, ◌++◌, map as each, length, sym, ap, ◌∙◌, subst, append_assoc, arith}
 use Rattle.fixed.specs.Listed.{listed}
 use Rattle.json_values.specs.Value.{Value}
 use Rattle.json_values.specs.declared.table.Entry.{Entry}

@@ -1,10 +1,8 @@
 -- The steps in which a schema is loaded, and the first for which there is no room.
-use Rattle.std.specs.Prelude.{ℕ, zero, suc, ◌+◌, Bool, true, false, cond, List, [], ◌∷◌, ◌++◌, length, Some, None, Option, Result, nat_lt}
+use Rattle.std.specs.Prelude.{ℕ, zero, suc, ◌+◌, cond, List, [], ◌∷◌, ◌++◌, length, Some, None, Option, nat_lt}
 use Rattle.json_values.specs.declared.table.Entry.{Entry}
 use Rattle.schema.specs.Entries.{linked_at, numbers_in, place_in, rules_at}
 use Rattle.schema.specs.RuleEntries.{rule_at}
-use Rattle.schema.specs.declared.rule.InvalidRule.{InvalidRule}
-use Rattle.schema.specs.declared.rule.Rule.{Rule}
 use Rattle.schema_tree.specs.declared.fault.TreeFault.{TreeFault}
 use Rattle.schema_tree.specs.declared.fault.TreeFault.TheVariants.{TreeFull, RulesFull}
 use Rattle.schema_tree.specs.declared.node.RuleEntry.{RuleEntry}

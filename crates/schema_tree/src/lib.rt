@@ -1,4 +1,6 @@
 // A schema loaded into a table of nodes and a table of rules, in the order in which places are visited.
+#![tactic(auto)]
+
 pub mod fault;
 mod load;
 pub mod node;

@@ -1,4 +1,4 @@
-use Rattle.std.proofs.Common.{◌≡◌, ℕ, ◌+◌, ◌*◌, ◌^◌, ◌≤◌, true, false, eqb, get_or, drop, sym, ap, ◌∙◌, arith}
+use Rattle.std.proofs.Common.{◌≡◌, true, false, eqb, get_or, drop, sym, ap, ◌∙◌, arith}
 use Rattle.json_values.specs.declared.table.Span.{Span}
 use Rattle.schema.specs.Parts.{order}
 use Rattle.schema.specs.declared.group.Group.TheVariants.{Properties}

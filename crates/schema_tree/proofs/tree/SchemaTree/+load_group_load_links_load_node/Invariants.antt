@@ -7,21 +7,21 @@ use Rattle.schema_tree.specs.Steps.{steps, taken}
 use Rattle.std.specs.List.{flat_map}
 use Rattle.schema_tree.proofs.tree.SchemaTree.+load_group_load_links_load_node.Given as goal
 
-abbrev pub decreases-load-group : goal.decreases-load-group
-decreases-load-group l = 3 * l.levels + 1
+abbrev pub decreases-load_group : goal.decreases-load_group
+decreases-load_group l = 3 * l.levels + 1
 
-abbrev pub decreases-load-links : goal.decreases-load-links
-decreases-load-links l = 3 * l.levels + 2
+abbrev pub decreases-load_links : goal.decreases-load_links
+decreases-load_links l = 3 * l.levels + 2
 
-abbrev pub decreases-load-node : goal.decreases-load-node
-decreases-load-node l = 3 * l.levels
+abbrev pub decreases-load_node : goal.decreases-load_node
+decreases-load_node l = 3 * l.levels
 
-abbrev pub invariant-load-group-loop-i : goal.invariant-load-group-loop-i
-invariant-load-group-loop-i l =
+abbrev pub invariant-load_group-loop-i : goal.invariant-load_group-loop-i
+invariant-load_group-loop-i l =
     (taken (flat_map (steps l.levels l.doc.text.now l.doc.entries.now) (run l.initial.i (l.end - l.initial.i))) (progress l.initial.self) ≡ taken (flat_map (steps l.levels l.doc.text.now l.doc.entries.now) (run l.i (l.end - l.i))) (progress l.self))
     × Run l.levels l.doc.text.now l.doc.entries.now l.initial.self l.self (run l.initial.i (l.i - l.initial.i))
 
-abbrev pub invariant-load-links-loop-k : goal.invariant-load-links-loop-k
-invariant-load-links-loop-k l =
+abbrev pub invariant-load_links-loop-k : goal.invariant-load_links-loop-k
+invariant-load_links-loop-k l =
     (taken (flat_map (steps l.levels l.doc.text.now l.doc.entries.now) (spread l.targets order)) (progress l.initial.self) ≡ taken (flat_map (steps l.levels l.doc.text.now l.doc.entries.now) (spread l.targets (drop l.k order))) (progress l.self))
     × Run l.levels l.doc.text.now l.doc.entries.now l.initial.self l.self (spread l.targets (take l.k order))

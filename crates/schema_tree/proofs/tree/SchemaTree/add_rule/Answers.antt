@@ -1,9 +1,7 @@
-use Rattle.std.proofs.Common.{◌≡◌, ◌<◌, ◌≤◌, List, length, Some, None, Option, sym, refl, ap, ◌∙◌, arith}
+use Rattle.std.proofs.Common.{◌<◌, ◌≤◌, List, length, Some, None, refl, ap, ◌∙◌, arith}
 use Rattle.schema_tree.specs.Builds.{progress}
-use Rattle.schema_tree.specs.Steps.{Progress}
 use Rattle.schema_tree.specs.declared.node.RuleEntry.{RuleEntry}
 use Rattle.schema_tree.proofs.Taking.{rule_out, rule_taken}
-use Rattle.schema_tree.specs.declared.fault.TreeFault.{TreeFault}
 use Rattle.schema_tree.specs.declared.fault.TreeFault.TheVariants.{RulesFull}
 use Rattle.fixed.specs.Listed.{listed}
 use Rattle.schema_tree.proofs.tree.SchemaTree.add_rule.Goals as goal

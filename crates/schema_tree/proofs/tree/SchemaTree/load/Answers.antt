@@ -1,6 +1,5 @@
-use Rattle.std.proofs.Common.{◌≡◌, ℕ, ◌+◌, ◌≤◌, Bool, cond, List, [], ◌∷◌, ◌++◌, length, sym, refl, ap, ◌∙◌, subst, arith}
+use Rattle.std.proofs.Common.{◌≡◌, ◌+◌, ◌≤◌, Bool, cond, [], ◌∷◌, ◌++◌, length, refl, ap, ◌∙◌, arith}
 use Rattle.fixed.specs.Listed.{listed}
-use Rattle.schema_tree.specs.Builds.{progress}
 use Rattle.schema_tree.specs.Stands.{Tables}
 use Rattle.schema_tree.specs.Steps.{Progress, steps, taken}
 use Rattle.schema_tree.proofs.Loading.{root_loaded}
@@ -11,7 +10,7 @@ pub returns-in-Ok : goal.returns-in-Ok
 returns-in-Ok c =
     let t = c.args.doc.text.now in
     let es = c.args.doc.entries.now in
-    let b = c.load-node.new.self in
+    let b = c.load_node.new.self in
     let row = c.in-Ok.node in
     let o = c.in-Ok.ensures.one in
     let none : listed c.clear.new.self.nodes ≡ [] = ap (λ (z : Tables). z.nodes) c.clear.ensures.tables in

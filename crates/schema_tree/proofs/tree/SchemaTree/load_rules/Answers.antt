@@ -1,11 +1,10 @@
-use Rattle.std.proofs.Common.{◌≡◌, ℕ, ◌+◌, ◌-◌, ◌≤◌, List, [], ◌∷◌, ◌++◌, map, length, sym, refl, ap, ◌∙◌, append_assoc, arith, rules}
+use Rattle.std.proofs.Common.{◌≡◌, ℕ, ◌+◌, ◌-◌, ◌≤◌, List, [], ◌∷◌, ◌++◌, map, sym, refl, ap, ◌∙◌, append_assoc, arith}
 use Rattle.fixed.specs.Listed.{listed}
-use Rattle.json_values.specs.declared.table.Span.{Span}
 use Rattle.schema.specs.Entries.{numbers_in, rules_at, run}
 use Rattle.schema_tree.specs.Builds.{progress}
 use Rattle.schema_tree.specs.Steps.{rule_entry, rule_steps, taken}
 use Rattle.schema_tree.specs.declared.node.RuleEntry.{RuleEntry}
-use Rattle.schema_tree.proofs.Runs.{run_end, run_none, run_push}
+use Rattle.schema_tree.proofs.Runs.{run_none, run_push}
 use Rattle.schema_tree.proofs.Taking.{rules_end, rules_on, rules_out}
 use Rattle.std.proofs.lemmas.List.{append-nil, map-append}
 use Rattle.std.proofs.lemmas.Result.{err_from_is_err_and}
@@ -18,23 +17,23 @@ loop-k-init c =
     let first = c.rules-span.result.first in
     (refl, refl, refl, refl, sym (ap (λ ns. listed c.args.self.now.rules ++ map (rule_entry t es) ns) (run_none first) ∙ append-nil (listed c.args.self.now.rules)))
 
-pub returns-in-err-add-rule : goal.returns-in-err-add-rule
-returns-in-err-add-rule c =
+pub returns-in_err-add_rule : goal.returns-in_err-add_rule
+returns-in_err-add_rule c =
     let t = c.args.doc.text.now in
     let es = c.args.doc.entries.now in
     let sp = c.rules-span.result in
     let end : ℕ = sp.first + sp.count in
     let inv = c.loop-k.invariant in
-    let p = err_from_is_err_and c.from-residual.result c.from-residual.ensures.1 in
+    let p = err_from_is_err_and c.from_residual.result c.from_residual.ensures.1 in
     let e : RuleEntry = record { place = c.place.result; rule = c.rule.result } in
     let is : e ≡ rule_entry t es c.loop-k.k = λ i. record { place = c.place.ensures i; rule = c.rule.ensures i } in
     let whole : numbers_in (rules_at t es c.args.i) ≡ run sp.first (end - sp.first) = let n : sp.count ≡ end - sp.first = omega arith in sym (ap numbers_in c.rules-span.ensures.value) ∙ ap (run sp.first) n in
-    let out = rules_out t es c.loop-k.k end c.loop-k-test.true e is (progress c.loop-k.self) (progress c.add-rule.new.self) _ c.in-err-add-rule.ensures.taken in
+    let out = rules_out t es c.loop-k.k end c.loop-k-test.true e is (progress c.loop-k.self) (progress c.add_rule.new.self) _ c.in_err-add_rule.ensures.taken in
     record {
       taken = rw (p.1, p.2) (out ∙ (sym inv.0 ∙ sym (ap (λ ns. taken (rule_steps t es ns) (progress c.args.self.now)) whole)));
-      nodes = c.in-err-add-rule.ensures.nodes ∙ inv.1;
-      pending = c.in-err-add-rule.ensures.pending ∙ inv.2;
-      count = c.in-err-add-rule.ensures.count ∙ inv.3;
+      nodes = c.in_err-add_rule.ensures.nodes ∙ inv.1;
+      pending = c.in_err-add_rule.ensures.pending ∙ inv.2;
+      count = c.in_err-add_rule.ensures.count ∙ inv.3;
       rules = rw p.1 tt;
     }
 
@@ -48,16 +47,16 @@ loop-k-preserved c =
     let inv = c.loop-k.invariant in
     let e : RuleEntry = record { place = c.place.result; rule = c.rule.result } in
     let is : e ≡ rule_entry t es k = λ i. record { place = c.place.ensures i; rule = c.rule.ensures i } in
-    let on = rules_on t es k end c.loop-k-test.true e is (progress c.loop-k.self) (progress c.add-rule.new.self) c.in-ok-add-rule.ensures.taken in
+    let on = rules_on t es k end c.loop-k-test.true e is (progress c.loop-k.self) (progress c.add_rule.new.self) c.in_ok-add_rule.ensures.taken in
     let le : sp.first ≤ k = c.loop-k.auto.k in
     let old = listed c.args.self.now.rules in
     let done : List RuleEntry = map (rule_entry t es) (run sp.first (k - sp.first)) in
     let more : map (rule_entry t es) (run sp.first (k + 1 - sp.first)) ≡ done ++ rule_entry t es k ∷ [] = ap (map (rule_entry t es)) (run_push sp.first k le) ∙ map-append (rule_entry t es) (run sp.first (k - sp.first)) (k ∷ []) in (
       inv.0 ∙ on,
-      c.in-ok-add-rule.ensures.nodes ∙ inv.1,
-      c.in-ok-add-rule.ensures.pending ∙ inv.2,
-      c.in-ok-add-rule.ensures.count ∙ inv.3,
-      c.in-ok-add-rule.ensures.rules ∙ (ap (λ z. z ++ e ∷ []) inv.4 ∙ (ap (λ r. (old ++ done) ++ r ∷ []) is ∙ (append_assoc old done (rule_entry t es k ∷ []) ∙ ap (λ z. old ++ z) (sym more)))),
+      c.in_ok-add_rule.ensures.nodes ∙ inv.1,
+      c.in_ok-add_rule.ensures.pending ∙ inv.2,
+      c.in_ok-add_rule.ensures.count ∙ inv.3,
+      c.in_ok-add_rule.ensures.rules ∙ (ap (λ z. z ++ e ∷ []) inv.4 ∙ (ap (λ r. (old ++ done) ++ r ∷ []) is ∙ (append_assoc old done (rule_entry t es k ∷ []) ∙ ap (λ z. old ++ z) (sym more)))),
     )
 
 pub returns : goal.returns

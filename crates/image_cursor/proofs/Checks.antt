@@ -1,12 +1,11 @@
 -- The check on the way over values passes exactly what is decoded.
-use Rattle.std.proofs.Common.{◌≡◌, ℕ, zero, suc, ◌+◌, ◌-◌, ◌*◌, ◌<◌, ◌≤◌, Bool, true, false, cond, ◌&&◌, List, [], ◌∷◌, ◌++◌, length, is_some, Some, None, Option, sym, refl, ap, ◌∙◌, subst, append_assoc, append-nil, arith}
-use Rattle.image.proofs.Heads.{behold, head_image, head_written}
-use Rattle.image.proofs.Opts.{none_some}
+use Rattle.std.proofs.Common.{◌≡◌, ℕ, zero, suc, ◌+◌, ◌*◌, Bool, true, false, cond, ◌&&◌, List, ◌++◌, length, is_some, Some, None, Option, sym, refl, ap, ◌∙◌, append_assoc, arith}
+use Rattle.image.proofs.Heads.{head_image, head_written}
 use Rattle.image.proofs.Rows.{text_is}
 use Rattle.image.proofs.Runs.{Written, inner, octets_behind, run-written}
-use Rattle.image.specs.Decode.{Decoded, Head, Run, Seen, above, decoded, first, gathered, head_of, items, later, lone, members, only, paired, paired_value, parts, run, running, seen, text_of, then}
+use Rattle.image.specs.Decode.{Decoded, Head, Run, Seen, above, decoded, first, gathered, items, later, lone, members, only, paired, paired_value, parts, run, running, seen, text_of, then}
 use Rattle.image.specs.Image.{image, items_image}
-use Rattle.image.specs.Typed.{Items, Members, Octets, Proper, ProperItems, Typed, item, items_count, list, map, member, no_items, scalar, text}
+use Rattle.image.specs.Typed.{Items, Members, Octets, Proper, ProperItems, Typed, item, items_count, map, member, no_items}
 use Rattle.image_cursor.proofs.Images.{seen_image, skipped_image, text_of_head}
 use Rattle.image_cursor.specs.Checking.{holds, keyed, ordered}
 use Rattle.image_cursor.specs.Walking.{Keyed, head_text, key_seen, past, skipped, walk}

@@ -1,9 +1,9 @@
 -- The laws of a cursor over an image.
-use Rattle.std.proofs.Common.{◌≡◌, ℕ, zero, suc, ◌+◌, ◌-◌, ◌<◌, ◌≤◌, Bool, true, false, cond, List, [], ◌∷◌, ◌++◌, length, drop, Some, None, Option, sym, refl, ap, ◌∙◌, subst, append_assoc, append-nil, arith, length-append, length-drop}
+use Rattle.std.proofs.Common.{◌≡◌, ℕ, zero, suc, ◌+◌, ◌-◌, ◌<◌, Bool, true, false, cond, List, ◌++◌, length, drop, Some, Option, sym, refl, ap, ◌∙◌, subst, append_assoc, arith, length-append, length-drop}
 use Rattle.image.proofs.Heads.{behold, head_image}
-use Rattle.image.proofs.Rows.{flat, flat_image}
+use Rattle.image.proofs.Rows.{flat_image}
 use Rattle.image.proofs.Runs.{inner, opened}
-use Rattle.image.specs.Decode.{Seen, head_of, members, seen, then}
+use Rattle.image.specs.Decode.{head_of, then}
 use Rattle.image.specs.Image.{image, items_image, members_image, scalar_image}
 use Rattle.image.specs.Typed.{Members, Proper, ProperMembers, Typed, list, map, member, members_count, no_members, scalar, text}
 use Rattle.image_cursor.proofs.Checks.{key_of_image}

@@ -1,7 +1,7 @@
 -- A command by its first byte and what lies behind it.
-use Rattle.std.proofs.Common.{◌≡◌, ℕ, ◌+◌, ◌-◌, ◌<◌, List, [], ◌∷◌, length, get_or, take, drop, Some, None, Option, sym, refl, ap, ◌∙◌, arith}
+use Rattle.std.proofs.Common.{◌≡◌, ℕ, ◌+◌, ◌-◌, ◌<◌, List, [], ◌∷◌, length, get_or, take, drop, None, Option, sym, refl, ap, ◌∙◌, arith}
 use Rattle.image.specs.Commands.{command}
-use Rattle.image.specs.Decode.{Seen, operand, seen}
+use Rattle.image.specs.Decode.{operand, seen}
 use Rattle.image.specs.declared.command.Command.{Command}
 use Rattle.std.proofs.lemmas.List.{drop-drop, take_rest}
 

@@ -1,13 +1,13 @@
 -- What is read from images.
-use Rattle.std.proofs.Common.{◌≡◌, ℕ, zero, suc, ◌+◌, ◌-◌, ◌*◌, ◌<◌, ◌≤◌, Bool, true, false, cond, ◌&&◌, List, [], ◌∷◌, ◌++◌, length, drop, Some, None, Option, sym, refl, ap, ◌∙◌, subst, append_assoc, append-nil, arith, length-append, length-drop}
+use Rattle.std.proofs.Common.{◌≡◌, ℕ, zero, suc, ◌+◌, List, ◌++◌, length, Some, refl, ap, ◌∙◌, append_assoc}
 use Rattle.image.proofs.Heads.{behold, head_image, head_read}
 use Rattle.image.proofs.Laws.{one_run}
 use Rattle.image.proofs.Opts.{mapped_some, none_some, some_same, then_some}
 use Rattle.image.proofs.Runs.{inner, opened}
-use Rattle.image.specs.Decode.{Head, Run, Seen, gathered, head_of, parts, run, running, seen, text_of, then}
-use Rattle.image.specs.Image.{image, items_image, members_image, scalar_image}
-use Rattle.image.specs.Typed.{Items, Proper, Typed, item, list, map, no_items, scalar, text}
-use Rattle.image_cursor.specs.Walking.{any, head_text, key_seen, past, skipped, walk}
+use Rattle.image.specs.Decode.{Run, gathered, head_of, parts, run, running, seen, text_of, then}
+use Rattle.image.specs.Image.{image, items_image}
+use Rattle.image.specs.Typed.{Proper, Typed, item, list, map, no_items, scalar}
+use Rattle.image_cursor.specs.Walking.{any, head_text, past, skipped, walk}
 use Rattle.std.specs.Option.{option_map}
 
 -- ---- reading

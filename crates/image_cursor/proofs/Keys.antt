@@ -1,5 +1,5 @@
 -- Keys and members, one by one.
-use Rattle.std.proofs.Common.{◌≡◌, ℕ, zero, suc, ◌-◌, ◌<◌, Bool, true, false, cond, ◌&&◌, List, Some, None, Option, sym, refl, ap, ◌∙◌, arith}
+use Rattle.std.proofs.Common.{◌≡◌, ℕ, zero, suc, ◌-◌, ◌<◌, true, false, cond, ◌&&◌, List, Some, None, Option, sym, refl, ap, ◌∙◌, arith}
 use Rattle.image.specs.Decode.{above, seen, then}
 use Rattle.image.specs.Decode as decode
 use Rattle.image_cursor.specs.Checking.{holds, ordered}

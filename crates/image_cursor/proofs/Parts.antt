@@ -1,5 +1,5 @@
 -- A length and so many bytes, by position and as a command's operand.
-use Rattle.std.proofs.Common.{◌≡◌, ℕ, ◌+◌, ◌-◌, ◌≤◌, cond, ◌&&◌, leb, List, length, take, drop, Some, None, Option, sym, refl, ap, ◌∙◌, arith, length-drop, length-take}
+use Rattle.std.proofs.Common.{◌≡◌, ℕ, ◌+◌, ◌-◌, ◌≤◌, ◌&&◌, leb, List, length, take, drop, Some, Option, sym, ap, ◌∙◌, arith, length-drop, length-take}
 use Rattle.image.proofs.Heads.{behold, part_some}
 use Rattle.image.proofs.Opts.{if_some}
 use Rattle.image.specs.Decode.{Seen, lone, number4, part}

@@ -1,6 +1,6 @@
 -- What was read at a position, and where the cursor then stands.
-use Rattle.std.proofs.Common.{◌≡◌, ℕ, ◌+◌, ◌-◌, ◌<◌, ◌≤◌, List, [], length, take, drop, IfSome, Some, None, Option, sym, refl, ap, ◌∙◌, arith, length-drop, length-take}
-use Rattle.image.specs.Decode.{Seen, seen}
+use Rattle.std.proofs.Common.{◌≡◌, ℕ, ◌+◌, ◌-◌, ◌<◌, ◌≤◌, List, [], length, drop, IfSome, Some, None, Option, sym, ap, ◌∙◌, arith, length-drop, length-take}
+use Rattle.image.specs.Decode.{seen}
 use Rattle.image_cursor.proofs.Fronts.{seen_empty}
 use Rattle.image_cursor.proofs.Turns.{drop_from, from}
 use Rattle.image_cursor.specs.Heads.{Placed, meaning, seen_at, seen_behind}

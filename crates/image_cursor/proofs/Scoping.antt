@@ -1,8 +1,8 @@
 -- What an answer says of a scope.
-use Rattle.std.proofs.Common.{◌≡◌, ℕ, ◌+◌, ◌<◌, ◌≤◌, Bool, true, false, cond, eqb, List, [], ◌∷◌, length, get_or, drop, is_some, Some, None, Option, sym, refl, ap, ◌∙◌, arith}
+use Rattle.std.proofs.Common.{◌≡◌, ℕ, ◌<◌, true, false, cond, eqb, List, [], ◌∷◌, length, get_or, drop, is_some, Some, None, Option, sym, refl, ap, ◌∙◌, arith}
 use Rattle.image.proofs.Bytes.{tested}
 use Rattle.image.proofs.Opts.{none_some, some_same}
-use Rattle.image.specs.Decode.{Decoded, decoded, decoded_old, decoded_scope, octets, scope, scope_of, then}
+use Rattle.image.specs.Decode.{Decoded, decoded, decoded_old, decoded_scope, scope, scope_of, then}
 use Rattle.image.specs.Typed.{Octets, OldSelf, Scope, Typed}
 use Rattle.image_cursor.proofs.Wholes.{no_whole}
 use Rattle.image_cursor.specs.Scopes.{old_at, scope_at, value_at}

@@ -1,6 +1,6 @@
 -- One turn of a walk, by positions.
-use Rattle.std.proofs.Common.{◌≡◌, ℕ, zero, suc, ◌+◌, ◌-◌, ◌<◌, ◌≤◌, Bool, cond, List, [], length, take, drop, Some, None, Option, sym, refl, ap, ◌∙◌, arith}
-use Rattle.image.specs.Decode.{Head, Seen, parts, seen, then}
+use Rattle.std.proofs.Common.{◌≡◌, ℕ, zero, suc, ◌+◌, ◌-◌, ◌<◌, Bool, cond, List, [], length, take, drop, Some, None, sym, ap, ◌∙◌, arith}
+use Rattle.image.specs.Decode.{Head, parts, seen, then}
 use Rattle.image_cursor.proofs.Walks.{past_many, past_more}
 use Rattle.image_cursor.specs.Walking.{past}
 use Rattle.std.proofs.lemmas.List.{drop_all, drop-drop, take_rest}

@@ -1,5 +1,5 @@
 -- Laws of going over values.
-use Rattle.std.proofs.Common.{◌≡◌, ℕ, zero, suc, ◌+◌, ◌-◌, ◌*◌, ◌<◌, ◌≤◌, Bool, true, false, cond, ◌&&◌, leb, List, [], ◌∷◌, ◌++◌, length, take, drop, Some, None, Option, sym, refl, ap, ◌∙◌, subst, arith, length-drop, w64, to_z}
+use Rattle.std.proofs.Common.{◌≡◌, ℕ, zero, suc, ◌+◌, ◌-◌, ◌<◌, ◌≤◌, Bool, true, false, cond, ◌&&◌, leb, List, [], ◌∷◌, length, take, drop, Some, None, Option, sym, refl, ap, arith, length-drop, w64, to_z}
 use Rattle.image.proofs.Opts.{if_some, if_then, none_some, some_same, then_some}
 use Rattle.image.specs.Commands.{command}
 use Rattle.image.specs.Decode.{Head, Seen, eight, four, items, lone, members, number4, number8, operand, part, parts, seen, then}

@@ -1,5 +1,5 @@
 -- A value with no byte left over, by positions.
-use Rattle.std.proofs.Common.{◌≡◌, ℕ, ◌+◌, ◌<◌, ◌≤◌, Bool, true, false, cond, eqb, List, [], ◌∷◌, length, get_or, drop, is_some, Some, None, Option, sym, refl, ap, ◌∙◌, arith, length-drop}
+use Rattle.std.proofs.Common.{◌≡◌, ℕ, ◌+◌, ◌<◌, ◌≤◌, true, false, cond, eqb, List, [], ◌∷◌, length, get_or, drop, is_some, Some, None, Option, sym, refl, ap, ◌∙◌, arith, length-drop}
 use Rattle.image.proofs.Opts.{none_some, some_same}
 use Rattle.image.specs.Decode.{Decoded, decoded, decoded_old, decoded_optional, ended, then, whole}
 use Rattle.image.specs.Typed.{OldSelf, Typed, absent, empty, plain, some}

@@ -1,6 +1,6 @@
 -- Going over values by a count of those to come, with no stack.
-use Rattle.std.specs.Prelude.{ℕ, zero, suc, ◌+◌, ◌-◌, Bool, true, false, cond, ◌&&◌, List, length, is_some, Some, None, Option}
-use Rattle.image.specs.Decode.{Head, Seen, above, items, lone, members, parts, scalar_text, seen, then}
+use Rattle.std.specs.Prelude.{ℕ, zero, suc, ◌+◌, ◌-◌, Bool, true, cond, List, length, Some, None, Option}
+use Rattle.image.specs.Decode.{Head, Seen, items, lone, members, parts, scalar_text, seen, then}
 use Rattle.order.specs.Bytes.{compare_bytes}
 use Rattle.std.specs.Ordering.{is_eq}
 

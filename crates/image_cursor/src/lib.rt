@@ -1,4 +1,6 @@
 // Reads images of typed values where they lie, and checks that bytes are a scope.
+#![tactic(auto)]
+
 mod check;
 pub mod cursor;
 pub mod head;

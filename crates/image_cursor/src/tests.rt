@@ -42,7 +42,7 @@ fn operands(rt: HostRuntime) -> Result<(), Fail> {
         return Err(Fail::new("no text"));
     };
     assert_eq!(rt; part.place, 5);
-    assert_eq!(rt; part.text, b"ab");
+    assert_eq!(rt; part.text, b"ab".as_slice());
     Ok(())
 }
 

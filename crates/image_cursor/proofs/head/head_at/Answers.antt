@@ -10,6 +10,6 @@ returns c =
     let bs = c.args.bytes.now in
     let low : c.args.at ≤ length bs = omega arith in
     record {
-      value = read_at bs c.args.at c.head-of.result c.head-of.ensures.value;
-      within = within_at bs c.args.at c.head-of.result low c.head-of.ensures.within;
+      value = read_at bs c.args.at c.head_of.result c.head_of.ensures.value;
+      within = within_at bs c.args.at c.head_of.result low c.head_of.ensures.within;
     }

@@ -1,25 +1,23 @@
-use Rattle.std.proofs.Common.{◌≡◌, ℕ, ◌+◌, ◌-◌, ◌<◌, ◌≤◌, length, get_or, drop, Some, None, Option, sym, ap, ◌∙◌, subst, arith, length-drop, length-take, rules}
-use Rattle.image.specs.Commands.{command}
-use Rattle.image.specs.Decode.{Seen}
+use Rattle.std.proofs.Common.{◌≡◌, ◌+◌, ◌-◌, ◌<◌, ◌≤◌, length, drop, Some, None, sym, ap, ◌∙◌, subst, arith, length-drop, length-take, rules}
 use Rattle.image_cursor.proofs.Fronts.{drop_behind, seen_empty, seen_first}
 use Rattle.image_cursor.specs.Heads.{Placed, meaning}
 use Rattle.image_cursor.proofs.head.head_of.Goals as goal
 
-pub returns-in-default : goal.returns-in-default
-returns-in-default c =
+pub returns-in_default : goal.returns-in_default
+returns-in_default c =
     let h : length c.args.rest.now < 1 = search rules in
     record { value = seen_empty c.args.rest.now h; within = tt }
 
-pub returns-in-default-of : goal.returns-in-default-of
-returns-in-default-of c =
+pub returns-in_default-of : goal.returns-in_default-of
+returns-in_default-of c =
     let h : 0 < length c.args.rest.now = search rules in
-    record { value = seen_first c.args.rest.now None h (sym c.in-default-of.ensures); within = tt }
+    record { value = seen_first c.args.rest.now None h (sym c.in_default-of.ensures); within = tt }
 
-pub returns-in-default-operand : goal.returns-in-default-operand
-returns-in-default-operand c =
+pub returns-in_default-operand : goal.returns-in_default-operand
+returns-in_default-operand c =
     let h : 0 < length c.args.rest.now = search rules in
     record {
-      value = c.in-default-operand.ensures.value ∙ seen_first c.args.rest.now (Some c.in-Some.command) h (sym c.in-Some.ensures);
+      value = c.in_default-operand.ensures.value ∙ seen_first c.args.rest.now (Some c.in-Some.command) h (sym c.in-Some.ensures);
       within = tt;
     }
 

@@ -1,4 +1,4 @@
-use Rattle.std.proofs.Common.{◌≡◌, ◌+◌, ◌-◌, ◌≤◌, true, false, ◌&&◌, length, drop, Some, None, Option, sym, ap, ◌∙◌, arith}
+use Rattle.std.proofs.Common.{◌≡◌, ◌-◌, ◌&&◌, drop, Some, sym, ap, ◌∙◌, arith}
 use Rattle.image_cursor.proofs.Keys.{order_done, order_more, order_none}
 use Rattle.image_cursor.specs.Checking.{holds, ordered}
 use Rattle.image_cursor.specs.Members.{keyed_at}
@@ -6,29 +6,29 @@ use Rattle.image_cursor.specs.Walking.{skipped}
 use Rattle.std.specs.Option.{option_map}
 use Rattle.image_cursor.proofs.members.ascending.Goals as goal
 
-pub returns-in-default : goal.returns-in-default
-returns-in-default c =
-    sym (c.loop-left.invariant ∙ order_none c.loop-left.left (option_map (λ x. x.now) c.loop-left.before) (drop c.loop-left.place c.args.bytes.now) c.loop-left-test.true c.in-default.ensures.value)
+pub returns-in_default : goal.returns-in_default
+returns-in_default c =
+    sym (c.loop-left.invariant ∙ order_none c.loop-left.left (option_map (λ x. x.now) c.loop-left.before) (drop c.loop-left.place c.args.bytes.now) c.loop-left-test.true c.in_default.ensures.value)
 
-pub returns-then-not-is-above : goal.returns-then-not-is-above
-returns-then-not-is-above c =
+pub returns-then-not-is_above : goal.returns-then-not-is_above
+returns-then-not-is_above c =
     let bs = c.args.bytes.now in
     let before = option_map (λ x. x.now) c.loop-left.before in
     let left = c.loop-left.left in
     let k = keyed_at bs c.in-Some.found in
     let turn = c.loop-left.invariant ∙ order_more left before (drop c.loop-left.place bs) k c.loop-left-test.true c.in-Some.ensures.value in
-    let went = turn ∙ ap (λ t. t && holds (skipped k.rest) (ordered (left - 1) (Some k.key))) (sym c.if-not-is-above.ensures) in
+    let went = turn ∙ ap (λ t. t && holds (skipped k.rest) (ordered (left - 1) (Some k.key))) (sym c.if-not-is_above.ensures) in
     sym went
 
-pub returns-in-default-end-of : goal.returns-in-default-end-of
-returns-in-default-end-of c =
+pub returns-in_default-end_of : goal.returns-in_default-end_of
+returns-in_default-end_of c =
     let bs = c.args.bytes.now in
     let before = option_map (λ x. x.now) c.loop-left.before in
     let left = c.loop-left.left in
     let k = keyed_at bs c.in-Some.found in
     let turn = c.loop-left.invariant ∙ order_more left before (drop c.loop-left.place bs) k c.loop-left-test.true c.in-Some.ensures.value in
-    let went = turn ∙ ap (λ t. t && holds (skipped k.rest) (ordered (left - 1) (Some k.key))) (sym c.if-not-is-above.ensures) in
-    sym (went ∙ ap (λ o. holds o (ordered (left - 1) (Some k.key))) (sym c.in-default-end-of.ensures.value))
+    let went = turn ∙ ap (λ t. t && holds (skipped k.rest) (ordered (left - 1) (Some k.key))) (sym c.if-not-is_above.ensures) in
+    sym (went ∙ ap (λ o. holds o (ordered (left - 1) (Some k.key))) (sym c.in_default-end_of.ensures.value))
 
 pub loop-left-preserved : goal.loop-left-preserved
 loop-left-preserved c =
@@ -37,8 +37,8 @@ loop-left-preserved c =
     let left = c.loop-left.left in
     let k = keyed_at bs c.in-Some.found in
     let turn = c.loop-left.invariant ∙ order_more left before (drop c.loop-left.place bs) k c.loop-left-test.true c.in-Some.ensures.value in
-    let went = turn ∙ ap (λ t. t && holds (skipped k.rest) (ordered (left - 1) (Some k.key))) (sym c.if-not-is-above.ensures) in
-    went ∙ ap (λ o. holds o (ordered (left - 1) (Some k.key))) (sym c.in-Some-end-of.ensures.value)
+    let went = turn ∙ ap (λ t. t && holds (skipped k.rest) (ordered (left - 1) (Some k.key))) (sym c.if-not-is_above.ensures) in
+    went ∙ ap (λ o. holds o (ordered (left - 1) (Some k.key))) (sym c.in-Some-end_of.ensures.value)
 
 pub returns : goal.returns
 returns c =

@@ -5,15 +5,15 @@ use Rattle.image_cursor.specs.Heads.{meaning}
 use Rattle.image_cursor.specs.Walking.{Keyed, head_text}
 use Rattle.image_cursor.proofs.members.key_at.Goals as goal
 
-pub returns-in-default : goal.returns-in-default
-returns-in-default c = record { value = key_none (drop c.args.at c.args.bytes.now) c.in-default.ensures.value; within = tt }
+pub returns-in_default : goal.returns-in_default
+returns-in_default c = record { value = key_none (drop c.args.at c.args.bytes.now) c.in_default.ensures.value; within = tt }
 
-pub returns-in-default-head : goal.returns-in-default-head
-returns-in-default-head c =
+pub returns-in_default-head : goal.returns-in_default-head
+returns-in_default-head c =
     let bs = c.args.bytes.now in
     let h = c.in-Some.reading.head in
     let r = drop (c.args.at + c.in-Some.reading.width) bs in
-    let none : ◌≡◌ {A = Option Keyed} None (then (head_text (meaning h)) (λ k. Some (record { key = k; rest = r }))) = ap (λ o. then o (λ k. Some (record { key = k; rest = r }))) (sym (no_text h c.in-default-head.not-Text)) in
+    let none : ◌≡◌ {A = Option Keyed} None (then (head_text (meaning h)) (λ k. Some (record { key = k; rest = r }))) = ap (λ o. then o (λ k. Some (record { key = k; rest = r }))) (sym (no_text h c.in_default-head.not-Text)) in
     record { value = none ∙ key_by (drop c.args.at bs) (meaning h) r c.in-Some.ensures.value; within = tt }
 
 pub returns : goal.returns

@@ -1,4 +1,4 @@
-use Rattle.std.proofs.Common.{◌≡◌, ◌<◌, length, get_or, is_some, sym, ap, ◌∙◌, arith}
+use Rattle.std.proofs.Common.{◌<◌, length, is_some, sym, ap, ◌∙◌, arith}
 use Rattle.image_cursor.proofs.Wholes.{old_absent, old_not, old_some}
 use Rattle.image_cursor.proofs.scope.read_old.Goals as goal
 
@@ -21,4 +21,4 @@ returns c =
     let at = c.args.at in
     let h : at < length bs = omega arith in
     let same = old_some bs at h (c.if-bytes-at.false ∙ c.byte.ensures) in
-    record { old = same ∙ c.read-optional.ensures.old; ok = c.read-optional.ensures.ok ∙ ap is_some (sym same) }
+    record { old = same ∙ c.read_optional.ensures.old; ok = c.read_optional.ensures.ok ∙ ap is_some (sym same) }

@@ -25,14 +25,14 @@ returns-then-byte c =
     let s = empty_more bs at h e c.if-behind-bytes.false in
     record { old = s.old; ok = s.ok }
 
-pub returns-then-is-whole : goal.returns-then-is-whole
-returns-then-is-whole c =
+pub returns-then-is_whole : goal.returns-then-is_whole
+returns-then-is_whole c =
     let bs = c.args.bytes.now in
     let at = c.args.at in
     let h : at < length bs = omega arith in
     let n : get_or bs at 0 ≡ 0x05 → ⊥ = λ e. c.if-byte.false (e ∙ sym c.byte.ensures) in
     let e : get_or bs at 0 ≡ 0x0D = c.if-byte-2.true ∙ c.byte-2.ensures in
-    let s = some_whole bs at h n e (sym c.if-is-whole.ensures) in
+    let s = some_whole bs at h n e (sym c.if-is_whole.ensures) in
     record { old = s.old; ok = s.ok }
 
 pub returns-then-byte-2 : goal.returns-then-byte-2
@@ -42,17 +42,17 @@ returns-then-byte-2 c =
     let h : at < length bs = omega arith in
     let n : get_or bs at 0 ≡ 0x05 → ⊥ = λ e. c.if-byte.false (e ∙ sym c.byte.ensures) in
     let e : get_or bs at 0 ≡ 0x0D = c.if-byte-2.true ∙ c.byte-2.ensures in
-    let s = some_not bs at h n e (sym c.if-is-whole.ensures) in
+    let s = some_not bs at h n e (sym c.if-is_whole.ensures) in
     record { old = s.old; ok = s.ok }
 
-pub returns-then-is-whole-2 : goal.returns-then-is-whole-2
-returns-then-is-whole-2 c =
+pub returns-then-is_whole-2 : goal.returns-then-is_whole-2
+returns-then-is_whole-2 c =
     let bs = c.args.bytes.now in
     let at = c.args.at in
     let h : at < length bs = omega arith in
     let n : get_or bs at 0 ≡ 0x05 → ⊥ = λ e. c.if-byte.false (e ∙ sym c.byte.ensures) in
     let m : get_or bs at 0 ≡ 0x0D → ⊥ = λ e. c.if-byte-2.false (e ∙ sym c.byte-2.ensures) in
-    let s = plain-whole bs at h n m (sym c.if-is-whole-2.ensures) in
+    let s = plain-whole bs at h n m (sym c.if-is_whole-2.ensures) in
     record { old = s.old; ok = s.ok }
 
 pub returns : goal.returns
@@ -62,5 +62,5 @@ returns c =
     let h : at < length bs = omega arith in
     let n : get_or bs at 0 ≡ 0x05 → ⊥ = λ e. c.if-byte.false (e ∙ sym c.byte.ensures) in
     let m : get_or bs at 0 ≡ 0x0D → ⊥ = λ e. c.if-byte-2.false (e ∙ sym c.byte-2.ensures) in
-    let s = plain-not bs at h n m (sym c.if-is-whole-2.ensures) in
+    let s = plain-not bs at h n m (sym c.if-is_whole-2.ensures) in
     record { old = s.old; ok = s.ok }

@@ -1,5 +1,5 @@
-use Rattle.std.proofs.Common.{◌≡◌, ◌+◌, ◌-◌, ◌<◌, ◌≤◌, length, take, drop, sym, ap, ◌∙◌, arith, length-drop, length-take}
-use Rattle.image_cursor.proofs.Turns.{beyond, from, go, stop}
+use Rattle.std.proofs.Common.{◌≡◌, ◌+◌, ◌-◌, ◌≤◌, length, drop, sym, ap, ◌∙◌, arith, length-drop, length-take}
+use Rattle.image_cursor.proofs.Turns.{beyond, go, stop}
 use Rattle.image_cursor.proofs.Walks.{past_many, past_none}
 use Rattle.image_cursor.specs.Heads.{meaning}
 use Rattle.image_cursor.specs.Walking.{any, past}
@@ -8,9 +8,9 @@ use Rattle.image_cursor.proofs.skip.end_of.Goals as goal
 pub returns-then-bytes-at : goal.returns-then-bytes-at
 returns-then-bytes-at c = record { value = sym (beyond any c.args.bytes.now c.args.at c.if-bytes-at.true); within = tt }
 
-pub returns-in-default : goal.returns-in-default
-returns-in-default c = record {
-  value = sym (c.loop-left.invariant.2 ∙ stop any c.args.bytes.now c.loop-left.place c.loop-left.left c.loop-left-test.true c.in-default.ensures.value);
+pub returns-in_default : goal.returns-in_default
+returns-in_default c = record {
+  value = sym (c.loop-left.invariant.2 ∙ stop any c.args.bytes.now c.loop-left.place c.loop-left.left c.loop-left-test.true c.in_default.ensures.value);
   within = tt;
 }
 

@@ -10,14 +10,14 @@ returns c =
     let bs = c.args.self.now.bytes.now in
     let at = c.args.self.now.at in
     let key = c.args.key.now in
-    let e = c.in-Some-look-up.ensures in
+    let e = c.in-Some-look_up.ensures in
     let rest = drop (at + c.in-Some.reading.width) bs in
-    let answer : ◌≡◌ {A = Option (List ℕ)} (Some (drop c.in-Some-look-up.place bs)) (sought key (drop at bs)) =
+    let answer : ◌≡◌ {A = Option (List ℕ)} (Some (drop c.in-Some-look_up.place bs)) (sought key (drop at bs)) =
     e.value
     ∙ ap (λ h. looked_in key (record { head = meaning h; rest = rest })) (sym c.in-Map.is)
     ∙ ap (λ o. then o (looked_in key)) c.in-Some.ensures.value in
     record {
       ok = ap is_some answer;
-      at = stands bs at c.in-Some-look-up.place (sought key (drop at bs)) e.within answer;
+      at = stands bs at c.in-Some-look_up.place (sought key (drop at bs)) e.within answer;
       bytes = refl;
     }

@@ -1,8 +1,8 @@
 -- A rule that was compiled.
-use Rattle.std.proofs.Common.{◌≡◌, ℕ, suc, ◌+◌, ◌<◌, ◌≤◌, Bool, List, [], ◌∷◌, ◌++◌, length, get_or, drop, Some, None, Ok, codes, Option, sym, refl, ap, ◌∙◌, arith, drop-cons}
-use Rattle.compilation.specs.Fates.{Fate, Fated, after_rule, all_fated, either, fated, with_message}
+use Rattle.std.proofs.Common.{◌≡◌, ℕ, suc, ◌+◌, ◌<◌, ◌≤◌, List, [], ◌∷◌, ◌++◌, length, get_or, drop, Some, None, Ok, codes, sym, ap, ◌∙◌, arith, drop-cons}
+use Rattle.compilation.specs.Fates.{Fate, after_rule, all_fated, either, fated, with_message}
 use Rattle.rule_host.proofs.Compilings.{compiling_laws}
-use Rattle.rule_host.specs.Compiling.{Compilation, compiled, mentions_at, program}
+use Rattle.rule_host.specs.Compiling.{compiled, mentions_at, program}
 use Rattle.rule_host.specs.Meaning.{Meaning}
 use Rattle.schema.specs.Laws.{rule_said}
 use Rattle.schema.specs.Rules.{WrittenRule}

@@ -1,5 +1,5 @@
 -- The programs of compiled rules stand for their expressions, and go on to as the host's list grows.
-use Rattle.std.proofs.Common.{◌≡◌, ℕ, ◌+◌, ◌<◌, ◌≤◌, Bool, List, [], ◌∷◌, ◌++◌, map as each, length, get_or, Some, None, codes, Option, sym, refl, ap, ◌∙◌, subst, ⊎_elim, append_assoc, arith}
+use Rattle.std.proofs.Common.{◌≡◌, ℕ, ◌<◌, ◌≤◌, Bool, List, [], ◌∷◌, ◌++◌, map as each, length, Some, None, codes, Option, sym, refl, ap, ◌∙◌, subst, ⊎_elim, append_assoc, arith}
 use Rattle.compilation.specs.Fates.{AllNamed, Fate, Fated, Named, NamedMessage, StepTaken, after_message, after_rule, all_fated, either, fated, ill_message, ill_rule, invalid, ready, with_message}
 use Rattle.compilation.proofs.Compiles.{stands_for}
 use Rattle.rule_host.proofs.Compilings.{compiling_laws}

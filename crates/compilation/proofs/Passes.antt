@@ -3,7 +3,6 @@ use Rattle.std.proofs.Common.{◌≡◌, ℕ, ◌+◌, Bool, true, false, cond, 
 use Rattle.compilation.specs.Fates.{Fate, Fated, all_fated, either, fated}
 use Rattle.compilation.specs.Loading.{Outcome, loading}
 use Rattle.compilation.specs.Widened.{widen}
-use Rattle.compilation.specs.declared.fault.LoadFault.{LoadFault}
 use Rattle.compilation.specs.declared.fault.LoadFault.TheVariants.{ProgramsFull, RulesFull, TreeFull}
 use Rattle.rule_host.specs.Meaning.{Meaning}
 use Rattle.schema.specs.Laws.{rule_said}

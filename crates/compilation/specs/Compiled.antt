@@ -1,5 +1,5 @@
 -- What the compiled rules of a schema stand for.
-use Rattle.std.specs.Prelude.{List, map, Ok, Err, Result}
+use Rattle.std.specs.Prelude.{Ok, Err, Result}
 use Rattle.compilation.specs.Fates.{Fate, ill_message, ill_rule, invalid, ready}
 use Rattle.compilation.specs.declared.validation.CompilationError.{CompilationError}
 use Rattle.compilation.specs.declared.validation.CompilationError.TheVariants.{InvalidRule, MessageExpressionParse, Parse}

@@ -1,5 +1,5 @@
 -- What becomes of a rule that a host compiles.
-use Rattle.std.specs.Prelude.{◌≡◌, ℕ, Bool, cond, List, [], ◌∷◌, ◌++◌, Some, None, codes, Option}
+use Rattle.std.specs.Prelude.{◌≡◌, ℕ, Bool, List, [], ◌∷◌, ◌++◌, Some, None, codes, Option}
 use Rattle.rule_host.specs.Compiling.{Compilation, compiled, no_room, program, rejected}
 use Rattle.rule_host.specs.Meaning.{Meaning}
 use Rattle.schema.specs.Laws.{rule_said}

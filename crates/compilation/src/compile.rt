@@ -22,9 +22,9 @@ fn compile_message<H: RuleHost>(
     program: usize,
     is_transition_rule: bool,
 ) -> Option<Validation>
-    ensures kept { meaning host.new ≡ meaning host.old }
-    ensures answer { option_map fate_of result ≡ (with_message (meaning host.old) program is_transition_rule (option_map (part_of (λ _. text.now)) message) (accepted host.old)).fate }
-    ensures list { accepted host.new ≡ (with_message (meaning host.old) program is_transition_rule (option_map (part_of (λ _. text.now)) message) (accepted host.old)).accepted }
+    ensures kept { H.meaning host.new ≡ H.meaning host.old }
+    ensures answer { option_map fate_of result ≡ (with_message (H.meaning host.old) program is_transition_rule (option_map (part_of (λ _. text.now)) message) (H.accepted host.old)).fate }
+    ensures list { H.accepted host.new ≡ (with_message (H.meaning host.old) program is_transition_rule (option_map (part_of (λ _. text.now)) message) (H.accepted host.old)).accepted }
 {
     let Some(part) = message else {
         return Some(Ok(CompilationResult {
@@ -50,9 +50,9 @@ pub fn compile_rule<H: RuleHost>(
     text: &[u8],
     rule: Result<Rule, InvalidRule>,
 ) -> Option<Validation>
-    ensures kept { meaning host.new ≡ meaning host.old }
-    ensures answer { option_map fate_of result ≡ (fated (meaning host.old) (accepted host.old) (rule_said text.now rule)).fate }
-    ensures list { accepted host.new ≡ (fated (meaning host.old) (accepted host.old) (rule_said text.now rule)).accepted }
+    ensures kept { H.meaning host.new ≡ H.meaning host.old }
+    ensures answer { option_map fate_of result ≡ (fated (H.meaning host.old) (H.accepted host.old) (rule_said text.now rule)).fate }
+    ensures list { H.accepted host.new ≡ (fated (H.meaning host.old) (H.accepted host.old) (rule_said text.now rule)).accepted }
 {
     let Ok(rule) = rule else {
         return Some(Err(CompilationError::InvalidRule));

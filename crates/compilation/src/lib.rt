@@ -1,4 +1,6 @@
 // Schemas compiled: their rules given to a rule host.
+#![tactic(auto)]
+
 mod compile;
 pub mod fault;
 mod loading;

@@ -26,10 +26,10 @@ pub fn compile_schema<H: RuleHost>(
     tree: &mut SchemaTree,
     validations: &mut Validations,
 ) -> Result<usize, LoadFault>
-    ensures kept { meaning host.new ≡ meaning host.old }
-    ensures loading { record { fates = map fate_of (listed validations.new); accepted = accepted host.new; fault = fault_of result } ≡ loading (meaning host.old) doc.entry.text.now (steps 65 doc.entry.text.now doc.entry.entries.now root) 0 [] (accepted host.old) }
+    ensures kept { H.meaning host.new ≡ H.meaning host.old }
+    ensures loading { record { fates = map fate_of (listed validations.new); accepted = H.accepted host.new; fault = fault_of result } ≡ loading (H.meaning host.old) doc.entry.text.now (steps 65 doc.entry.text.now doc.entry.entries.now root) 0 [] (H.accepted host.old) }
     ensures loaded { IfOk result (λ at. Loaded doc.entry.text.now doc.entry.entries.now (tables tree.new) at (value_in doc.entry.text.now doc.entry.entries.now root)) }
-    ensures named { OnOk result (AllNamed (accepted host.new) (map (λ x. rule_said doc.entry.text.now x.rule) (tables tree.new).rules) (map fate_of (listed validations.new))) }
+    ensures named { OnOk result (AllNamed (H.accepted host.new) (map (λ x. rule_said doc.entry.text.now x.rule) (tables tree.new).rules) (map fate_of (listed validations.new))) }
 {
     let loaded = tree.load(doc, root);
     if let Some(place) = compile_rules(host, doc.text, tree.rules(), validations) {

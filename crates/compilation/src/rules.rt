@@ -24,8 +24,8 @@ pub fn compile_rules<H: RuleHost>(
     validations: &mut Validations,
 ) -> Option<usize>
     requires { length rules.now ≤ 256 }
-    ensures kept { meaning host.new ≡ meaning host.old }
-    ensures fated { record { fates = map fate_of (listed validations.new); full = result; accepted = accepted host.new } ≡ all_fated (meaning host.old) text.now rules.now [] (accepted host.old) }
+    ensures kept { H.meaning host.new ≡ H.meaning host.old }
+    ensures fated { record { fates = map fate_of (listed validations.new); full = result; accepted = H.accepted host.new } ≡ all_fated (H.meaning host.old) text.now rules.now [] (H.accepted host.old) }
 {
     validations.clear();
     for rule in rules {

@@ -1,4 +1,4 @@
-use Rattle.std.proofs.Common.{◌≡◌, ℕ, Bool, false, List, Some, codes, Option, unwrap_or, sym, refl, ap, ◌∙◌}
+use Rattle.std.proofs.Common.{◌≡◌, ℕ, Bool, false, List, Some, codes, Option, unwrap_or, sym, ap, ◌∙◌}
 use Rattle.compilation.specs.Fates.{StepTaken, fated, with_message}
 use Rattle.compilation.proofs.Compiles.{fated_program, mention_of}
 use Rattle.rule_host.specs.Compiling.{compiled, mentions_at, program}
@@ -17,16 +17,16 @@ returns-in-Program g c =
     let t = c.args.text.now in
     let w : WrittenRule = rule_means t c.in-Ok.rule in
     let n = c.in-Program.program in
-    let e = c.part-text.result.now in
-    let same : e ≡ w.rule = c.part-text.ensures in
+    let e = c.part_text.result.now in
+    let same : e ≡ w.rule = c.part_text.ensures in
     let prog : (compiled m acc w.rule).0 ≡ program n = sym (c.in-Program.ensures.answer ∙ ap (λ (x : List ℕ). (compiled m acc x).0) same) in
     let list : acc1 ≡ (compiled m acc w.rule).1 = c.in-Program.ensures.list ∙ ap (λ (x : List ℕ). (compiled m acc x).1) same in
     let kept : m1 ≡ m = c.in-Program.ensures.kept in
     let asked : mentions_at m1 acc1 n (codes "oldSelf") ≡ Some (m.mentioned w.rule (codes "oldSelf")) = ap (λ (x : Meaning). mentions_at x acc1 n (codes "oldSelf")) kept ∙ (ap (λ (z : List (List ℕ)). mentions_at m z n (codes "oldSelf")) list ∙ mention_of m acc w.rule (codes "oldSelf") n prog) in
-    let b : c.unwrap-or-mentions.result ≡ m.mentioned w.rule (codes "oldSelf") = c.unwrap-or-mentions.ensures ∙ ap (λ (o : Option Bool). unwrap_or o false) (c.mentions.ensures ∙ asked) in
-    let step : with_message m1 n c.unwrap-or-mentions.result w.message_expression acc1 ≡ fated m acc (rule_said t c.args.rule) =
+    let b : c.unwrap_or-mentions.result ≡ m.mentioned w.rule (codes "oldSelf") = c.unwrap_or-mentions.ensures ∙ ap (λ (o : Option Bool). unwrap_or o false) (c.mentions.ensures ∙ asked) in
+    let step : with_message m1 n c.unwrap_or-mentions.result w.message_expression acc1 ≡ fated m acc (rule_said t c.args.rule) =
     (λ i. with_message (kept i) n (b i) w.message_expression (list i)) ∙ (sym (fated_program m acc w n prog) ∙ sym (ap (λ r. fated m acc (rule_said t r)) c.in-Ok.is)) in
-    let d = c.compile-message.ensures in
+    let d = c.compile_message.ensures in
     record {
       kept = d.kept ∙ kept;
       answer = d.answer ∙ ap (λ (x : StepTaken). x.fate) step;

@@ -1,8 +1,5 @@
-use Rattle.std.proofs.Common.{◌≡◌, ℕ, List, [], map, Some, None, sym, refl, ap, ◌∙◌, subst}
-use Rattle.compilation.specs.Compiled.{fate_of}
-use Rattle.compilation.specs.Fates.{AllNamed, Fate, Fated, all_fated}
-use Rattle.compilation.specs.Loading.{Outcome, loading}
-use Rattle.compilation.specs.Widened.{widen}
+use Rattle.std.proofs.Common.{◌≡◌, ℕ, List, [], map, Some, None, sym, ap, ◌∙◌, subst}
+use Rattle.compilation.specs.Fates.{AllNamed, Fated, all_fated}
 use Rattle.compilation.proofs.Names.{fates_named}
 use Rattle.compilation.proofs.Passes.{both, two_passes}
 use Rattle.fixed.specs.Listed.{listed}
@@ -28,18 +25,18 @@ returns-in-Some g c =
     let x = e.fated ∙ ap (λ (z : List RuleEntry). all_fated m t z [] acc) c.rules.ensures.value in
     record { kept = e.kept; loading = ap (λ (z : Fated). both z (tree-fault-of c.load-loaded.result)) x ∙ two; loaded = tt; named = tt }
 
-pub returns-in-err-root : goal.returns-in-err-root
-returns-in-err-root g c =
+pub returns-in_err-root : goal.returns-in_err-root
+returns-in_err-root g c =
     let h = g.H.RuleHost in
     let m : Meaning = h.meaning c.args.host.now in
     let acc : List (List ℕ) = h.accepted c.args.host.now in
     let t = c.args.doc.text.now in
     let es = c.args.doc.entries.now in
     let tree = c.load-loaded.new.self in
-    let fault = c.in-err-root.field-0.0 in
-    let p = err_from_is_err_and c.from-residual.result c.from-residual.ensures.1 in
-    let e = c.in-default.ensures in
-    let two = two_passes m t (steps 65 t es c.args.root) (progress tree) (Some fault) acc c.in-err-root.ensures.taken in
+    let fault = c.in_err-root.field-0.0 in
+    let p = err_from_is_err_and c.from_residual.result c.from_residual.ensures.1 in
+    let e = c.in_default.ensures in
+    let two = two_passes m t (steps 65 t es c.args.root) (progress tree) (Some fault) acc c.in_err-root.ensures.taken in
     let x = e.fated ∙ ap (λ (z : List RuleEntry). all_fated m t z [] acc) c.rules.ensures.value in
     record {
       kept = e.kept;
@@ -57,14 +54,14 @@ returns g c =
     let es = c.args.doc.entries.now in
     let tree = c.load-loaded.new.self in
     let rs = listed tree.rules in
-    let e = c.in-default.ensures in
-    let f = c.in-ok-root.ensures.taken in
+    let e = c.in_default.ensures in
+    let f = c.in_ok-root.ensures.taken in
     let two = two_passes m t (steps 65 t es c.args.root) (progress tree) None acc f in
     let x = e.fated ∙ ap (λ (z : List RuleEntry). all_fated m t z [] acc) c.rules.ensures.value in
     let none : (all_fated m t rs [] acc).full ≡ None = sym (ap (λ (z : Fated). z.full) x) in
     record {
       kept = e.kept;
       loading = ap (λ (z : Fated). both z None) x ∙ two;
-      loaded = c.in-ok-root.ensures.loaded;
+      loaded = c.in_ok-root.ensures.loaded;
       named = subst (λ (z : Fated). AllNamed z.accepted (map (λ (r : RuleEntry). rule_said t r.rule) rs) z.fates) (sym x) (fates_named m t rs [] [] acc tt none);
     }

@@ -1,6 +1,6 @@
-use Rattle.std.proofs.Common.{◌≡◌, ℕ, ◌+◌, ◌≤◌, Bool, cond, List, [], ◌∷◌, ◌++◌, map, length, get_or, drop, Some, None, Option, Result, sym, refl, ap, ◌∙◌, arith}
+use Rattle.std.proofs.Common.{◌≡◌, ℕ, ◌+◌, ◌≤◌, Bool, cond, List, [], ◌∷◌, ◌++◌, map, length, get_or, drop, Some, Result, sym, refl, ap, ◌∙◌, arith}
 use Rattle.compilation.specs.Compiled.{fate_of}
-use Rattle.compilation.specs.Fates.{Fate, Fated, StepTaken, all_fated, fated}
+use Rattle.compilation.specs.Fates.{Fate, StepTaken, all_fated, fated}
 use Rattle.compilation.specs.declared.validation.CompilationError.{CompilationError}
 use Rattle.compilation.specs.declared.validation.CompilationResult.{CompilationResult}
 use Rattle.compilation.proofs.Compiles.{blank, fated_end, fated_full, fated_more}
@@ -18,8 +18,8 @@ loop-rule-init g c =
     let e = c.clear.ensures in
     (refl, sym (ap (λ (z : List (Result CompilationResult CompilationError)). all_fated (h.meaning c.args.host.now) c.args.text.now c.args.rules.now (map fate_of z) (h.accepted c.args.host.now)) e), ap length e)
 
-pub returns-in-default : goal.returns-in-default
-returns-in-default g c =
+pub returns-in_default : goal.returns-in_default
+returns-in_default g c =
     let h = g.H.RuleHost in
     let m : Meaning = h.meaning c.args.host.now in
     let t = c.args.text.now in
@@ -28,7 +28,7 @@ returns-in-default g c =
     let acc : List (List ℕ) = h.accepted c.loop-rule.host in
     let known : List Fate = map fate_of (listed c.loop-rule.validations) in
     let i = c.loop-rule.invariant in
-    let e = c.in-default.ensures in
+    let e = c.in_default.ensures in
     let r : RuleEntry = get_or rs k blank in
     let step : fated (h.meaning c.loop-rule.host) acc (rule_said t r.rule) ≡ fated m acc (rule_said t r.rule) = ap (λ (x : Meaning). fated x acc (rule_said t r.rule)) i.0 in
     let full = fated_full m t rs k c.loop-rule-test.true blank known acc (e.answer ∙ ap (λ (x : StepTaken). x.fate) step) in

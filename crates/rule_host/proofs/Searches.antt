@@ -1,6 +1,6 @@
 -- A search over stored rows, step by step, and what is known of each stored row.
 use Rattle.std.proofs.Common.{◌≡◌, ℕ, zero, suc, ◌+◌, ◌-◌, ◌<◌, ◌≤◌, Bool, true, false, cond, leb, List, [], ◌∷◌, ◌++◌, map, length, get_or, drop, Some, None, Option, sym, refl, ap, ◌∙◌, arith, length-take}
-use Rattle.std.specs.List.{AllByRecursion as All}
+use Rattle.std.specs.List.{AllByRecursion}
 use Rattle.std.specs.Str.{bytes_eq}
 use Rattle.std.proofs.lemmas.List.Elements.{filter-append}
 use Rattle.std.proofs.lemmas.List.{at_drop_more, at_drop_all, append-nil}
@@ -105,11 +105,11 @@ decides_first : (p : Row → Bool) (rs : List Row) (s : Row) → first p rs ≡ 
 decides_first p [] s e = let z : ◌≡◌ {A = ℕ} 0 1 = cc in absurd (omega arith)
 decides_first p (r ∷ rs) s e = decides_here p r s rs (p r) refl e (decides_first p rs s)
 
-none_here : (p : Row → Bool) (r : Row) (rs : List Row) (b : Bool) → p r ≡ b → cond b (Some r) (first p rs) ≡ None → (first p rs ≡ None → All (λ s. p s ≡ false) rs) → All (λ s. p s ≡ false) (r ∷ rs)
+none_here : (p : Row → Bool) (r : Row) (rs : List Row) (b : Bool) → p r ≡ b → cond b (Some r) (first p rs) ≡ None → (first p rs ≡ None → AllByRecursion (λ s. p s ≡ false) rs) → AllByRecursion (λ s. p s ≡ false) (r ∷ rs)
 none_here p r rs true h e k = let z : ◌≡◌ {A = ℕ} 0 1 = cc in absurd (omega arith)
 none_here p r rs false h e k = (h, k e)
 
-none_passes : (p : Row → Bool) (rs : List Row) → first p rs ≡ None → All (λ s. p s ≡ false) rs
+none_passes : (p : Row → Bool) (rs : List Row) → first p rs ≡ None → AllByRecursion (λ s. p s ≡ false) rs
 none_passes p [] e = tt
 none_passes p (r ∷ rs) e = none_here p r rs (p r) refl e (none_passes p rs)
 

@@ -1,6 +1,6 @@
 -- What holds of every host's compilations, and of the rows of every answer book, by their definitions.
 use Rattle.std.specs.Prelude.{◌≡◌, ℕ, ◌<◌, ◌≤◌, Bool, true, false, List, [], ◌∷◌, ◌++◌, length, Some, None, slice_index_or}
-use Rattle.std.specs.List.{AllByRecursion as All}
+use Rattle.std.specs.List.{AllByRecursion}
 use Rattle.rule_host.specs.Compiling.{compiled, program, total, Distinct}
 use Rattle.rule_host.specs.Meaning.{Meaning}
 use Rattle.rule_host.specs.Rows.{Row, is_short, present, first}
@@ -25,13 +25,13 @@ pub record DecidesFirst (p : Row → Bool) (rs : List Row) (r : Row) : Type 0 wh
   pub later : List Row
   pub stands : rs ≡ earlier ++ r ∷ later
   pub passes : p r ≡ true
-  pub none_before : All (λ s. p s ≡ false) earlier
+  pub none_before : AllByRecursion (λ s. p s ≡ false) earlier
 
 -- for any test and rows
 pub record BookLaws : Type 0 where
   -- the row that decides is the first that passes
   pub some : (p : Row → Bool) (rs : List Row) (r : Row) → first p rs ≡ Some r → DecidesFirst p rs r
   -- where none decides, none passes
-  pub none : (p : Row → Bool) (rs : List Row) → first p rs ≡ None → All (λ s. p s ≡ false) rs
+  pub none : (p : Row → Bool) (rs : List Row) → first p rs ≡ None → AllByRecursion (λ s. p s ≡ false) rs
   -- a row with a long text changes nothing
   pub absent : (rs : List Row) (r : Row) → is_short r.evaluation ≡ false → present (rs ++ r ∷ []) ≡ present rs

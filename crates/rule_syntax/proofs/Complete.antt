@@ -8,7 +8,7 @@ use Rattle.std.proofs.lemmas.Bool.Decides.{nat_tests}
 use Rattle.std.specs.Option.{option_map}
 use Rattle.std.specs.Char.{is_ascii_digit}
 use Rattle.std.specs.Int.Digits.{number_from_digits, number_from_digits_after}
-use Rattle.std.specs.List.{AllByRecursion as All}
+use Rattle.std.specs.List.{AllByRecursion}
 use Rattle.std.specs.Str.{bytes_eq}
 use Rattle.rule_syntax.specs.declared.rule.Operator.{Operator}
 use Rattle.rule_syntax.specs.declared.rule.Operator.TheVariants.{Eq, Ne, Lt, Le, Gt, Ge}
@@ -34,11 +34,11 @@ names_at_end : (n : List ℕ) → Each name_byte n → names_of n ≡ n ∷ []
 names_at_end [] each = refl
 names_at_end (b ∷ n) each = ap (λ c. cond c ([] ∷ names_of n) (onto b (names_of n))) (no_point b each.0) ∙ ap (onto b) (names_at_end n each.1)
 
-names_read : (n : List ℕ) (ns : List (List ℕ)) → All (λ n. proper_name n ≡ true) (n ∷ ns) → names_of (n ++ pointed_text ns) ≡ n ∷ ns
+names_read : (n : List ℕ) (ns : List (List ℕ)) → AllByRecursion (λ n. proper_name n ≡ true) (n ∷ ns) → names_of (n ++ pointed_text ns) ≡ n ∷ ns
 names_read n [] all = ap names_of (append-nil n) ∙ names_at_end n (proper_each n all.0)
 names_read n (m ∷ ns) all = names_at_point n (m ++ pointed_text ns) (proper_each n all.0) ∙ ap (λ x. n ∷ x) (names_read m ns all.1)
 
-every_read : (ns : List (List ℕ)) → All (λ n. proper_name n ≡ true) ns → every_name ns ≡ true
+every_read : (ns : List (List ℕ)) → AllByRecursion (λ n. proper_name n ≡ true) ns → every_name ns ≡ true
 every_read [] all = refl
 every_read (n ∷ ns) all = and_from (proper_name n) (every_name ns) all.0 (every_read ns all.1)
 
@@ -68,7 +68,7 @@ name_no_number (b ∷ s) rest e =
 
 -- ---- numbers
 
-magnitude_read : (m v : ℕ) (ds : List ℕ) → All (λ d. d < 10) ds → number_from_digits_after 10 v ds ≤ m → magnitude_from m v (digits_text ds) ≡ Some (number_from_digits_after 10 v ds)
+magnitude_read : (m v : ℕ) (ds : List ℕ) → AllByRecursion (λ d. d < 10) ds → number_from_digits_after 10 v ds ≤ m → magnitude_from m v (digits_text ds) ≡ Some (number_from_digits_after 10 v ds)
 magnitude_read m v [] all small = refl
 magnitude_read m v (d ∷ ds) all small =
     let low : d < 10 = all.0 in
@@ -81,11 +81,11 @@ magnitude_read m v (d ∷ ds) all small =
     ∙ ap (λ n. magnitude_from m n (digits_text ds)) e
     ∙ magnitude_read m (v * 10 + d) ds all.1 small
 
-digits_read : (m : ℕ) (ds : List ℕ) → All (λ d. d < 10) ds → 0 < length ds → number_from_digits 10 ds ≤ m → magnitude m (digits_text ds) ≡ Some (number_from_digits 10 ds)
+digits_read : (m : ℕ) (ds : List ℕ) → AllByRecursion (λ d. d < 10) ds → 0 < length ds → number_from_digits 10 ds ≤ m → magnitude m (digits_text ds) ≡ Some (number_from_digits 10 ds)
 digits_read m [] all some small = absurd (omega arith)
 digits_read m (d ∷ ds) all some small = magnitude_read m 0 (d ∷ ds) all small
 
-plain_read : (ds : List ℕ) → All (λ d. d < 10) ds → 0 < length ds → number_from_digits 10 ds < 2 ^ 63 → operand_of (digits_text ds) ≡ Some (int (pos (number_from_digits 10 ds)))
+plain_read : (ds : List ℕ) → AllByRecursion (λ d. d < 10) ds → 0 < length ds → number_from_digits 10 ds < 2 ^ 63 → operand_of (digits_text ds) ≡ Some (int (pos (number_from_digits 10 ds)))
 plain_read [] all some small = absurd (omega arith)
 plain_read (d ∷ ds) all some small =
     let low : d < 10 = all.0 in
@@ -153,7 +153,7 @@ comparison_at p rest proper ends =
     (operator_at p.operator (r ++ rest) (spaced_no_equals p.right rest proper.1))
     (operand_at p.right rest proper.1 ends)
 
-rule_at : (k : ℕ) (done : List Compared) (p : Phrase) (ps : List Phrase) → All ProperPhrase (p ∷ ps) → length ps < k → rule_from k done (phrase_text p ++ more_text ps) ≡ Some (done ++ map phrase_says (p ∷ ps))
+rule_at : (k : ℕ) (done : List Compared) (p : Phrase) (ps : List Phrase) → AllByRecursion ProperPhrase (p ∷ ps) → length ps < k → rule_from k done (phrase_text p ++ more_text ps) ≡ Some (done ++ map phrase_says (p ∷ ps))
 rule_at k done p [] proper few = rule_end k done (phrase_text p ++ []) (phrase_says p, []) (omega arith) (comparison_at p [] proper.0 end_ends) refl
 rule_at zero done p (q ∷ ps) proper few = absurd (omega arith)
 rule_at (suc k) done p (q ∷ ps) proper few =

@@ -7,7 +7,7 @@ use Rattle.std.proofs.lemmas.Bool.Decides.{nat_tests}
 use Rattle.std.specs.Option.{option_map}
 use Rattle.std.specs.Char.{is_ascii_digit}
 use Rattle.std.specs.Int.Digits.{number_from_digits, number_from_digits_after}
-use Rattle.std.specs.List.{prefix_len, AllByRecursion as All}
+use Rattle.std.specs.List.{prefix_len, AllByRecursion}
 use Rattle.std.specs.Str.{bytes_eq}
 use Rattle.rule_syntax.specs.declared.rule.Operator.{Operator}
 use Rattle.rule_syntax.specs.Syntax.{Term, int, bool, null, path, Compared, then, word_byte, proper_name, onto, names_of, every_name, numeric, magnitude, magnitude_from, number_of, constant_of, path_of, or_else, operand_of, unspaced, leading_word, behind_word, leading_operand, begins, operators, operator_of, leading_operator, leading_comparison, behind_and, rule_from, parsed, before_dot, past_dot}
@@ -35,7 +35,7 @@ unspaced_sound (b ∷ s) = spaces_by b s (eqb b 32) refl (unspaced_sound s)
 -- digits behind the number v
 record DigitsRead (v : ℕ) (s : List ℕ) (n : ℕ) : Type 0 where
   read : List ℕ
-  proper : All (λ d. d < 10) read
+  proper : AllByRecursion (λ d. d < 10) read
   text : digits_text read ≡ s
   value_is : number_from_digits_after 10 v read ≡ n
 
@@ -53,7 +53,7 @@ digits_sound m v (b ∷ s) n e =
 -- digits that are a number
 record NumberRead (m : ℕ) (s : List ℕ) (n : ℕ) : Type 0 where
   read : List ℕ
-  proper : All (λ d. d < 10) read
+  proper : AllByRecursion (λ d. d < 10) read
   some : 0 < length read
   text : digits_text read ≡ s
   value_is : number_from_digits 10 read ≡ n
@@ -135,7 +135,7 @@ names_joined : (s : List ℕ) → names_text (names_of s) ≡ s
 names_joined [] = refl
 names_joined (b ∷ s) = joined_by b s (eqb b 46) refl (names_joined s)
 
-every_all : (ns : List (List ℕ)) → every_name ns ≡ true → All (λ n. proper_name n ≡ true) ns
+every_all : (ns : List (List ℕ)) → every_name ns ≡ true → AllByRecursion (λ n. proper_name n ≡ true) ns
 every_all [] e = tt
 every_all (n ∷ ns) e = let h = and_parts (proper_name n) (every_name ns) e in (h.0, every_all ns h.1)
 
@@ -195,7 +195,7 @@ begins-front (x ∷ p) (y ∷ s) e = let h = and_parts (eqb x y) (begins p s) e 
 
 -- the table has each operator beside its text
 abbrev Known : List (List ℕ × Operator) → Type 0
-Known l = All (λ x. x.0 ≡ operator_text x.1) l
+Known l = AllByRecursion (λ x. x.0 ≡ operator_text x.1) l
 
 known : Known operators
 known = (refl, (refl, (refl, (refl, (refl, (refl, tt))))))
@@ -238,7 +238,7 @@ comparison_sound s c e = let q = comparison_parts s c e in subst (PhraseRead s) 
 record RuleRead (done : List Compared) (s : List ℕ) (cs : List Compared) : Type 0 where
   first : Phrase
   more : List Phrase
-  proper : All ProperPhrase (first ∷ more)
+  proper : AllByRecursion ProperPhrase (first ∷ more)
   text : s ≡ phrase_text first ++ more_text more
   means : cs ≡ done ++ map phrase_says (first ∷ more)
 

@@ -4,7 +4,7 @@ use Rattle.std.proofs.lemmas.List.{take_at, drop_at, length-map}
 use Rattle.std.proofs.lemmas.Bool.{and_parts, or_left, not-true, true≢false}
 use Rattle.std.proofs.lemmas.Bool.Decides.{nat_tests}
 use Rattle.std.specs.Char.{is_ascii_digit}
-use Rattle.std.specs.List.{prefix_len, AllByRecursion as All}
+use Rattle.std.specs.List.{prefix_len, AllByRecursion}
 use Rattle.escaping.specs.Escape.{reserved}
 use Rattle.rule_syntax.specs.declared.rule.Operator.{Operator}
 use Rattle.rule_syntax.specs.declared.rule.Operator.TheVariants.{Eq, Ne, Lt, Le, Gt, Ge}
@@ -21,7 +21,7 @@ space b = eqb b 32
 
 -- p holds of each byte
 abbrev pub Each : (ℕ → Bool) → List ℕ → Type 0
-Each p w = All (λ b. p b ≡ true) w
+Each p w = AllByRecursion (λ b. p b ≡ true) w
 
 pub leading_at : (p : ℕ → Bool) (w rest : List ℕ) → Each p w → Stops p rest → prefix_len p (w ++ rest) ≡ length w
 leading_at p [] [] each stops = refl
@@ -76,7 +76,7 @@ pub each_append : (p : ℕ → Bool) (xs ys : List ℕ) → Each p xs → Each p
 each_append p [] ys x y = y
 each_append p (b ∷ xs) ys x y = (x.0, each_append p xs ys x.1 y)
 
-digits_word : (ds : List ℕ) → All (λ d. d < 10) ds → Each word_byte (digits_text ds)
+digits_word : (ds : List ℕ) → AllByRecursion (λ d. d < 10) ds → Each word_byte (digits_text ds)
 digits_word [] all = tt
 digits_word (d ∷ ds) all = let small : d < 10 = all.0 in (grind (arith, nat_tests), digits_word ds all.1)
 
@@ -108,11 +108,11 @@ pub proper_some : (n : List ℕ) → proper_name n ≡ true → 0 < length n
 proper_some [] e = absurd (true≢false (sym e))
 proper_some (b ∷ s) e = omega arith
 
-pointed_word : (ns : List (List ℕ)) → All (λ n. proper_name n ≡ true) ns → Each word_byte (pointed_text ns)
+pointed_word : (ns : List (List ℕ)) → AllByRecursion (λ n. proper_name n ≡ true) ns → Each word_byte (pointed_text ns)
 pointed_word [] all = tt
 pointed_word (n ∷ ns) all = (refl, each_append word_byte n (pointed_text ns) (name_word n (proper_each n all.0)) (pointed_word ns all.1))
 
-names_word : (ns : List (List ℕ)) → All (λ n. proper_name n ≡ true) ns → Each word_byte (names_text ns)
+names_word : (ns : List (List ℕ)) → AllByRecursion (λ n. proper_name n ≡ true) ns → Each word_byte (names_text ns)
 names_word [] all = tt
 names_word (n ∷ ns) all = each_append word_byte n (pointed_text ns) (name_word n (proper_each n all.0)) (pointed_word ns all.1)
 
@@ -169,6 +169,6 @@ pub phrase_long : (p : Phrase) → ProperPhrase p → 3 ≤ length (phrase_text 
 phrase_long p proper =
     omega (arith, length-append (spaced_text p.left) (operator_text p.operator ++ spaced_text p.right), length-append (operator_text p.operator) (spaced_text p.right), spaced_some p.left proper.0, spaced_some p.right proper.1, operator_some p.operator)
 
-pub more_long : (ps : List Phrase) → All ProperPhrase ps → 5 * length ps ≤ length (more_text ps)
+pub more_long : (ps : List Phrase) → AllByRecursion ProperPhrase ps → 5 * length ps ≤ length (more_text ps)
 more_long [] proper = omega arith
 more_long (p ∷ ps) proper = omega (arith, length-append (phrase_text p) (more_text ps), phrase_long p proper.0, more_long ps proper.1)

@@ -1,7 +1,7 @@
 -- A text is read in one way.
 use Rattle.std.proofs.Common.{◌≡◌, ℕ, ◌+◌, ◌<◌, eqb, List, [], ◌∷◌, ◌++◌, length, sym, refl, ap, ◌∙◌, append_assoc, arith}
 use Rattle.std.proofs.lemmas.List.{length-replicate}
-use Rattle.std.specs.List.{prefix_len, AllByRecursion as All}
+use Rattle.std.specs.List.{prefix_len, AllByRecursion}
 use Rattle.rule_syntax.specs.declared.rule.Operator.{Operator}
 use Rattle.rule_syntax.specs.Syntax.{word_byte, unspaced, leading_word, behind_word, operand_of, leading_operator}
 use Rattle.rule_syntax.specs.Grammar.{Written, plain, minus, truth, falsehood, nothing, named, digits_text, written_text, says, ProperWritten, Spaced, spaces, spaced_text, operator_text, Phrase, phrase_text, ProperPhrase, more_text, Reading, spell, Proper}
@@ -37,7 +37,7 @@ digits_same (d ∷ ds) (x ∷ es) e =
     let more = digits_same ds es (rest_same (48 + d) (48 + x) (digits_text ds) (digits_text es) e) in
     λ i. same i ∷ more i
 
-digits_no_minus : {X : Type 0} (ds s : List ℕ) → All (λ d. d < 10) ds → digits_text ds ≡ 45 ∷ s → X
+digits_no_minus : {X : Type 0} (ds s : List ℕ) → AllByRecursion (λ d. d < 10) ds → digits_text ds ≡ 45 ∷ s → X
 digits_no_minus [] s all e = absurd (omega (arith, ap length e))
 digits_no_minus (d ∷ ds) s all e = absurd (omega (arith, first_same (48 + d) 45 (digits_text ds) s e))
 
@@ -120,7 +120,7 @@ phrase_same x y s t p q bs bt e =
     let r = spaced_same x.right y.right s t p.1 q.1 bs bt o.1 in
     ((λ i. record { left = l.0 i; operator = o.0 i; right = r.0 i }), r.1)
 
-more_same : (xs ys : List Phrase) → All ProperPhrase xs → All ProperPhrase ys → more_text xs ≡ more_text ys → xs ≡ ys
+more_same : (xs ys : List Phrase) → AllByRecursion ProperPhrase xs → AllByRecursion ProperPhrase ys → more_text xs ≡ more_text ys → xs ≡ ys
 more_same [] [] p q e = refl
 more_same [] (y ∷ ys) p q e = absurd (omega (arith, ap length e))
 more_same (x ∷ xs) [] p q e = absurd (omega (arith, ap length e))

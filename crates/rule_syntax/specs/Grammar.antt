@@ -1,7 +1,7 @@
 -- What a rule is: its parts as they are written, the text that spells them, and what they say.
 use Rattle.std.specs.Prelude.{◌≡◌, ℕ, ◌+◌, ◌*◌, ◌^◌, ◌<◌, ◌≤◌, true, false, List, [], ◌∷◌, ◌++◌, map, length, replicate, pos, neg_ℤ, Some, codes}
 use Rattle.std.specs.Int.Digits.{number_from_digits}
-use Rattle.std.specs.List.{AllByRecursion as All}
+use Rattle.std.specs.List.{AllByRecursion}
 use Rattle.rule_syntax.specs.declared.rule.Operator.{Operator}
 use Rattle.rule_syntax.specs.declared.rule.Operator.TheVariants.{Eq, Ne, Lt, Le, Gt, Ge}
 use Rattle.rule_syntax.specs.Syntax.{Term, int, bool, null, path, Compared, proper_name, parsed}
@@ -49,12 +49,12 @@ says (named ns) = path ns
 
 -- there is a digit, and the number is from -2^63 to 2^63 - 1; there is a name, and each is a name
 abbrev pub ProperWritten : Written → Type 0
-ProperWritten (plain ds) = All (λ d. d < 10) ds × (0 < length ds) × (number_from_digits 10 ds < 2 ^ 63)
-ProperWritten (minus ds) = All (λ d. d < 10) ds × (0 < length ds) × (number_from_digits 10 ds ≤ 2 ^ 63)
+ProperWritten (plain ds) = AllByRecursion (λ d. d < 10) ds × (0 < length ds) × (number_from_digits 10 ds < 2 ^ 63)
+ProperWritten (minus ds) = AllByRecursion (λ d. d < 10) ds × (0 < length ds) × (number_from_digits 10 ds ≤ 2 ^ 63)
 ProperWritten truth = Unit {0}
 ProperWritten falsehood = Unit {0}
 ProperWritten nothing = Unit {0}
-ProperWritten (named ns) = (0 < length ns) × All (λ n. proper_name n ≡ true) ns
+ProperWritten (named ns) = (0 < length ns) × AllByRecursion (λ n. proper_name n ≡ true) ns
 
 -- an operand with so many spaces before it and behind it
 pub record Spaced : Type 0 where
@@ -117,7 +117,7 @@ rule_says r = map phrase_says (r.first ∷ r.more)
 
 -- a rule that can be written
 abbrev pub Proper : Reading → Type 0
-Proper r = All ProperPhrase (r.first ∷ r.more)
+Proper r = AllByRecursion ProperPhrase (r.first ∷ r.more)
 
 -- s spells a rule that says cs
 pub record Spells (s : List ℕ) (cs : List Compared) : Type 0 where

@@ -3,7 +3,7 @@ use Rattle.std.specs.Prelude.{◌≡◌, ℕ, ◌+◌, ◌^◌, ◌<◌, Bool, L
 use Rattle.std.specs.declared.cmp.Ordering.TheVariants.{Less}
 use Rattle.std.specs.Int.{w64}
 use Rattle.order.specs.Bytes.{compare_bytes}
-use Rattle.std.specs.List.{AllByRecursion as All}
+use Rattle.std.specs.List.{AllByRecursion}
 
 -- a value that holds no other; a text is its bytes, and a duration counts nanoseconds
 pub data Scalar : Type 0 where
@@ -42,7 +42,7 @@ members_count (member k v ms) = members_count ms + 1
 
 -- every byte is below 256
 abbrev pub Octets : List ℕ → Type 0
-Octets s = All (λ b. b < 256) s
+Octets s = AllByRecursion (λ b. b < 256) s
 
 -- bytes whose length four bytes hold
 pub record Short (s : List ℕ) : Type 0 where

@@ -60,7 +60,7 @@ all_push a (v ∷ ws) (g ∷ fs) w f h k = (h.0, all_push a ws fs w f h.1 k)
 -- ---- one rule
 
 -- a step leaves what was there, and names its programs
-pub record Steps-well (acc : List (List ℕ)) (w : Option WrittenRule) (x : StepTaken) : Type 0 where
+pub record StepsWell (acc : List (List ℕ)) (w : Option WrittenRule) (x : StepTaken) : Type 0 where
   pub lasts : Lasts acc x.accepted
   pub names : (f : Fate) → x.fate ≡ Some f → Named x.accepted w f
 
@@ -68,32 +68,32 @@ some_same : {A : Type 0} (x y : A) → Some x ≡ Some y → x ≡ y
 some_same x y h = cc
 
 module _ (m : Meaning) (w : WrittenRule) where
-  message_well : (acc : List (List ℕ)) (n : ℕ) (b : Bool) → slice_get acc n ≡ Some w.rule → (e : Option (List ℕ)) → w.message_expression ≡ e → Steps-well acc (Some w) (with_message m n b e acc)
+  message_well : (acc : List (List ℕ)) (n : ℕ) (b : Bool) → slice_get acc n ≡ Some w.rule → (e : Option (List ℕ)) → w.message_expression ≡ e → StepsWell acc (Some w) (with_message m n b e acc)
   message_well acc n b h None q = record { lasts = lasts_self acc; names = λ f k. subst (Named acc (Some w)) (some_same (ready n b None) f k) (h, subst (λ e. NamedMessage acc e None) (sym q) tt) }
   message_well acc n b h (Some e) q = by (compiled m acc e).0 refl
     where
       l : Lasts acc (compiled m acc e).1
       l = lasts-compiled m acc e
 
-      by : (c : Compilation) → (compiled m acc e).0 ≡ c → Steps-well acc (Some w) (after_message n b c (compiled m acc e).1)
+      by : (c : Compilation) → (compiled m acc e).0 ≡ c → StepsWell acc (Some w) (after_message n b c (compiled m acc e).1)
       by (program p) k = record { lasts = l; names = λ f j. subst (Named (compiled m acc e).1 (Some w)) (some_same (ready n b (Some p)) f j) (l n w.rule h, subst (λ x. NamedMessage (compiled m acc e).1 x (Some p)) (sym q) (stands_for m acc e p k)) }
       by (rejected t) k = record { lasts = l; names = λ f j. subst (Named (compiled m acc e).1 (Some w)) (some_same (ill_message t) f j) tt }
       by no_room k = record { lasts = l; names = λ f j. let z : ◌≡◌ {A = ℕ} 0 1 = cc in let y : ⊥ = omega arith in elim y [ ] }
 
-  rule_well : (acc : List (List ℕ)) → Steps-well acc (Some w) (fated m acc (Some w))
+  rule_well : (acc : List (List ℕ)) → StepsWell acc (Some w) (fated m acc (Some w))
   rule_well acc = by (compiled m acc w.rule).0 refl
     where
       l : Lasts acc (compiled m acc w.rule).1
       l = lasts-compiled m acc w.rule
 
-      by : (c : Compilation) → (compiled m acc w.rule).0 ≡ c → Steps-well acc (Some w) (after_rule m w c (compiled m acc w.rule).1)
+      by : (c : Compilation) → (compiled m acc w.rule).0 ≡ c → StepsWell acc (Some w) (after_rule m w c (compiled m acc w.rule).1)
       by (program n) k =
           let r = message_well (compiled m acc w.rule).1 n (m.mentioned w.rule (codes "oldSelf")) (stands_for m acc w.rule n k) w.message_expression refl in
           record { lasts = λ i e h. r.lasts i e (l i e h); names = r.names }
       by (rejected t) k = record { lasts = l; names = λ f j. subst (Named (compiled m acc w.rule).1 (Some w)) (some_same (ill_rule t) f j) tt }
       by no_room k = record { lasts = l; names = λ f j. let z : ◌≡◌ {A = ℕ} 0 1 = cc in let y : ⊥ = omega arith in elim y [ ] }
 
-pub steps_well : (m : Meaning) (acc : List (List ℕ)) (w : Option WrittenRule) → Steps-well acc w (fated m acc w)
+pub steps_well : (m : Meaning) (acc : List (List ℕ)) (w : Option WrittenRule) → StepsWell acc w (fated m acc w)
 steps_well m acc None = record { lasts = lasts_self acc; names = λ f k. subst (Named acc None) (some_same invalid f k) refl }
 steps_well m acc (Some w) = rule_well m w acc
 

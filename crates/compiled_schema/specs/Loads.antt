@@ -1,5 +1,5 @@
 -- What loading a schema text says of the text, and what it leaves.
-use Rattle.std.specs.Prelude.{◌≡◌, ℕ, ◌⊎◌, List, [], map, Some, None, Ok, Err, Option, Result}
+use Rattle.std.specs.Prelude.{◌≡◌, ℕ, ◌⊎◌, List, [], map, Some, None, Ok, Err, Result}
 use Rattle.compilation.specs.Fates.{AllNamed, Fate}
 use Rattle.compilation.specs.Loading.{loading}
 use Rattle.compilation.specs.declared.fault.LoadFault.{LoadFault}
@@ -18,7 +18,7 @@ use Rattle.schema_tree.specs.Steps.{steps}
 use Rattle.schema_tree.specs.declared.node.RuleEntry.{RuleEntry}
 
 -- the text was read as the value of the entry `entry`, and the tables stand for it
-pub record Taken-in (m : Meaning) (acc : List (List ℕ)) (text : List ℕ) (h : Held) (after : List (List ℕ)) : Type 0 where
+pub record TakenIn (m : Meaning) (acc : List (List ℕ)) (text : List ℕ) (h : Held) (after : List (List ℕ)) : Type 0 where
   pub entry : ℕ
   pub root : ℕ
   pub reads : Taken Schema text [] [] entry h.text h.entries
@@ -47,5 +47,5 @@ pub record Unloaded (m : Meaning) (acc : List (List ℕ)) (text : List ℕ) (f :
 
 -- after a refusal there is no schema
 abbrev pub Loads : Meaning → List (List ℕ) → List ℕ → Result (Unit {0}) Fault → Held → List (List ℕ) → Type 0
-Loads m acc text (Ok x) h after = Taken-in m acc text h after
+Loads m acc text (Ok x) h after = TakenIn m acc text h after
 Loads m acc text (Err f) h after = (h ≡ nothing) × (Unread acc text f after ⊎ Unloaded m acc text f after)

@@ -3,9 +3,9 @@ ghost use Rattle.std.specs.Prelude.{◌≡◌};
 ghost use Rattle.compiled_schema.specs.Faults.{flawed, load_fault, read_fault, refusal_number, refusal_word};
 
 use compilation::fault::LoadFault;
-use json_values::parts::Source;
 use json_reader::fault::Fault as ReadFault;
 use json_scanner::modes::Fault as Flaw;
+use json_values::parts::Source;
 
 #[derive(Clone, Copy, PartialEq, Eq, Debug)]
 pub enum Refusal {

@@ -1,4 +1,6 @@
 // A schema from its text to its tables.
+#![tactic(auto)]
+
 mod compiled;
 pub mod fault;
 mod load;

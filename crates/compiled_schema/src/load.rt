@@ -2,7 +2,7 @@
 ghost use Rattle.std.specs.Prelude.{◌≡◌, ◌⊎◌, map, IfOk, MatchResult};
 ghost use Rattle.compilation.specs.Compiled.{fate_of};
 ghost use Rattle.compiled_schema.specs.Holds.{held, nothing, rooted};
-ghost use Rattle.compiled_schema.specs.Loads.{Loads, Taken-in, Unloaded, Unread};
+ghost use Rattle.compiled_schema.specs.Loads.{Loads, TakenIn, Unloaded, Unread};
 ghost use Rattle.schema_tree.specs.Builds.{tables};
 
 use super::compiled::CompiledSchema;
@@ -10,9 +10,9 @@ use super::fault::Fault;
 use compilation::compile_schema;
 use compilation::validation::Validation;
 use fixed::list::FixedList;
+use json_reader::Reader;
 use json_values::parts::Source;
 use json_values::store::Store;
-use json_reader::Reader;
 use rule_host::host::RuleHost;
 use schema::document::Document;
 use schema_tree::SchemaTree;
@@ -55,8 +55,8 @@ impl CompiledSchema {
         text: &[u8],
     ) -> Result<usize, Fault>
         requires { held self.old ≡ nothing }
-        ensures kept { meaning host.new ≡ meaning host.old }
-        ensures law { MatchResult result (λ at. Taken-in (meaning host.old) (accepted host.old) text.now (rooted at (held self.new)) (accepted host.new)) (λ f. Unread (accepted host.old) text.now f (accepted host.new) ⊎ Unloaded (meaning host.old) (accepted host.old) text.now f (accepted host.new)) }
+        ensures kept { H.meaning host.new ≡ H.meaning host.old }
+        ensures law { MatchResult result (λ at. TakenIn (H.meaning host.old) (H.accepted host.old) text.now (rooted at (held self.new)) (H.accepted host.new)) (λ f. Unread (H.accepted host.old) text.now f (H.accepted host.new) ⊎ Unloaded (H.meaning host.old) (H.accepted host.old) text.now f (H.accepted host.new)) }
     {
         let entry = reader.read(text, Source::Schema, &mut self.store, &mut self.table)?;
         let doc = Document {
@@ -75,8 +75,8 @@ impl CompiledSchema {
         host: &mut H,
         text: &[u8],
     ) -> Result<(), Fault>
-        ensures kept { meaning host.new ≡ meaning host.old }
-        ensures law { Loads (meaning host.old) (accepted host.old) text.now result (held self.new) (accepted host.new) }
+        ensures kept { H.meaning host.new ≡ H.meaning host.old }
+        ensures law { Loads (H.meaning host.old) (H.accepted host.old) text.now result (held self.new) (H.accepted host.new) }
     {
         self.clear();
         match self.read_and_compile(reader, host, text) {

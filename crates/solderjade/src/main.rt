@@ -16,6 +16,7 @@ use failure::Failure;
 use std::alloc::Global;
 use std::env;
 use std::io::Write;
+use std::process::ExitCode;
 
 // What a call prints, by its verb and the words behind it.
 fn answer(heap: Global, words: &[String]) -> Result<Vec<u8>, Failure> {
@@ -39,12 +40,14 @@ fn run(rt: &HostRuntime) -> Result<(), Failure> {
     Ok(())
 }
 
-fn main(rt: HostRuntime) -> Result<(), Failure> {
-    let done = run(&rt);
-    if let Err(failure) = &done {
-        failure.tell(&rt);
+fn main(rt: HostRuntime) -> ExitCode {
+    match run(&rt) {
+        Ok(()) => ExitCode::SUCCESS,
+        Err(failure) => {
+            failure.tell(&rt);
+            ExitCode::FAILURE
+        }
     }
-    done
 }
 
 #[cfg(test)]

@@ -106,13 +106,13 @@ fn push_rule(
         CompilationError::InvalidRule => out.extend_from_slice(b": invalid rule definition")?,
         CompilationError::Parse(why) => {
             out.extend_from_slice(b": ")?;
-            out.extend_from_slice(why.as_slice())?;
+            out.extend_from_slice(why.as_bytes())?;
         }
         CompilationError::MessageExpressionParse(why) => {
             out.extend_from_slice(b": message expression")?;
             push_quoted_part(schema, message, out)?;
             out.extend_from_slice(b": ")?;
-            out.extend_from_slice(why.as_slice())?;
+            out.extend_from_slice(why.as_bytes())?;
         }
     }
     out.push(b'\n')?;
@@ -136,6 +136,7 @@ fn push_rules(
 }
 
 // A node and all that its links lead to, of which so many levels are gone through: that bounds the recursion.
+#[cycle(push_nodes)]
 fn push_node(
     heap: Global,
     schema: &CompiledSchema,
@@ -153,6 +154,7 @@ fn push_node(
     Ok(())
 }
 
+#[cycle(push_nodes)]
 fn push_group(
     heap: Global,
     schema: &CompiledSchema,

@@ -1,4 +1,6 @@
 // What a person is told of a schema that was loaded.
+#![tactic(auto)]
+
 mod complaints;
 mod summary;
 

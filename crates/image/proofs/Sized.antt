@@ -54,3 +54,9 @@ module _ (out : List ℕ) (at b : ℕ) (s : List ℕ) where
           place = p ∙ (ap (λ t. cond t (a + length s) a) (sym f) ∙ fa);
           buffer = q ∙ (ap (λ t. cond t (put o a s) o) (sym f) ∙ fo);
         }
+
+    -- the same, by the equations of both steps
+    pub both_steps : (m : ℕ) (t : Bool) {o : List ℕ} {a : ℕ} {o' : List ℕ} {a' : ℕ} → m ≡ length s → t ≡ fits o a s → a' ≡ moved o a s → o' ≡ written o a s → true ≡ fits out at (b ∷ be4 m) → a ≡ moved out at (b ∷ be4 m) → o ≡ written out at (b ∷ be4 m) → Both t a' o'
+    both_steps m t e f p q first-ok first-at first-out =
+        let front-is : b ∷ be4 m ≡ front b s = ap (λ n. b ∷ be4 n) e ∙ sym front_short in
+        both t (head_went m e first-ok first-at first-out) (first-at ∙ ap (moved out at) front-is) (first-out ∙ ap (written out at) front-is) f p q

@@ -1,12 +1,8 @@
 use Rattle.image.proofs.Laws.{decodes_images, prefix_code}
 use Rattle.image.proofs.write.begin_list.Goals as goal
 
-pub returns : goal.returns
-returns c = record {
-  ok = c.put_four.ensures.ok;
-  at = c.put_four.ensures.at;
-  out = c.put_four.ensures.out;
-  name = c.put_four.ensures.name;
-  prefix_code = prefix_code;
-  decodes = decodes_images;
-}
+pub returns-clause-prefix_code : goal.returns-clause-prefix_code
+returns-clause-prefix_code c = prefix_code
+
+pub returns-clause-decodes : goal.returns-clause-decodes
+returns-clause-decodes c = decodes_images

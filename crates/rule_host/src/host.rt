@@ -15,6 +15,9 @@ pub trait RuleHost {
     // The expressions that it has accepted, by number.
     ghost accepted: { Self → List (List ℕ) };
 
+    // No expression stands there twice.
+    ghost distinct: { (h : Self) → Distinct (accepted h) };
+
     // Gives an expression a number. An ill one is rejected, a known one keeps its number, and a new
     // one needs room.
     fn compile(&mut self, expression: &[u8]) -> Compiled
@@ -31,7 +34,4 @@ pub trait RuleHost {
         ensures kept { meaning self.new ≡ meaning self.old }
         ensures list { accepted self.new ≡ accepted self.old }
         ensures answer { option_map outcome_of result ≡ evaluation_at (meaning self.old) (accepted self.old) program image.now };
-
-    // No expression stands there twice.
-    ghost distinct: { (h : Self) → Distinct (accepted h) };
 }

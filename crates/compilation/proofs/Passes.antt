@@ -8,7 +8,7 @@ use Rattle.rule_host.specs.Meaning.{Meaning}
 use Rattle.schema.specs.Laws.{rule_said}
 use Rattle.schema_tree.specs.Steps.{Progress, Step, node, rule, taken}
 use Rattle.schema_tree.specs.declared.fault.TreeFault.{TreeFault}
-use Rattle.schema_tree.specs.declared.fault.TreeFault.TheVariants as tree-fault
+use Rattle.schema_tree.specs.declared.fault.TreeFault.TheVariants as tree_fault
 use Rattle.schema_tree.specs.declared.node.RuleEntry.{RuleEntry}
 use Rattle.std.proofs.lemmas.List.{append-nil, length_push}
 use Rattle.std.specs.Option.{option_map, option_or}
@@ -22,20 +22,20 @@ new_rules (rule r ∷ ss) n k = cond (ltb k 256) (r ∷ new_rules ss n (k + 1)) 
 -- and its fault
 pass_fault : List Step → ℕ → ℕ → Option TreeFault
 pass_fault [] n k = None
-pass_fault (node p ∷ ss) n k = cond (ltb n 512) (pass_fault ss (n + 1) k) (Some (tree-fault.TreeFull p))
-pass_fault (rule r ∷ ss) n k = cond (ltb k 256) (pass_fault ss n (k + 1)) (Some (tree-fault.RulesFull r.place))
+pass_fault (node p ∷ ss) n k = cond (ltb n 512) (pass_fault ss (n + 1) k) (Some (tree_fault.TreeFull p))
+pass_fault (rule r ∷ ss) n k = cond (ltb k 256) (pass_fault ss n (k + 1)) (Some (tree_fault.RulesFull r.place))
 
 taken-rules : (ss : List Step) (n : ℕ) (rs : List RuleEntry) → (taken ss (record { nodes = n; rules = rs })).0.rules ≡ rs ++ new_rules ss n (length rs)
 unfolding taken new_rules
 taken-rules [] n rs = sym (append-nil rs)
 taken-rules (node p ∷ ss) n rs = by (ltb n 512) (taken-rules ss (n + 1) rs)
   where
-    by : (b : Bool) → (taken ss (record { nodes = n + 1; rules = rs })).0.rules ≡ rs ++ new_rules ss (n + 1) (length rs) → (cond b (taken ss (record { nodes = n + 1; rules = rs })) (record { nodes = n; rules = rs }, Some (tree-fault.TreeFull p))).0.rules ≡ rs ++ cond b (new_rules ss (n + 1) (length rs)) []
+    by : (b : Bool) → (taken ss (record { nodes = n + 1; rules = rs })).0.rules ≡ rs ++ new_rules ss (n + 1) (length rs) → (cond b (taken ss (record { nodes = n + 1; rules = rs })) (record { nodes = n; rules = rs }, Some (tree_fault.TreeFull p))).0.rules ≡ rs ++ cond b (new_rules ss (n + 1) (length rs)) []
     by true h = h
     by false h = sym (append-nil rs)
 taken-rules (rule r ∷ ss) n rs = by (ltb (length rs) 256) (taken-rules ss n (rs ++ r ∷ []))
   where
-    by : (b : Bool) → (taken ss (record { nodes = n; rules = rs ++ r ∷ [] })).0.rules ≡ (rs ++ r ∷ []) ++ new_rules ss n (length (rs ++ r ∷ [])) → (cond b (taken ss (record { nodes = n; rules = rs ++ r ∷ [] })) (record { nodes = n; rules = rs }, Some (tree-fault.RulesFull r.place))).0.rules ≡ rs ++ cond b (r ∷ new_rules ss n (length rs + 1)) []
+    by : (b : Bool) → (taken ss (record { nodes = n; rules = rs ++ r ∷ [] })).0.rules ≡ (rs ++ r ∷ []) ++ new_rules ss n (length (rs ++ r ∷ [])) → (cond b (taken ss (record { nodes = n; rules = rs ++ r ∷ [] })) (record { nodes = n; rules = rs }, Some (tree_fault.RulesFull r.place))).0.rules ≡ rs ++ cond b (r ∷ new_rules ss n (length rs + 1)) []
     by true h = h ∙ (append_assoc rs (r ∷ []) (new_rules ss n (length (rs ++ r ∷ []))) ∙ ap (λ k. rs ++ (r ∷ new_rules ss n k)) (length_push rs r))
     by false h = sym (append-nil rs)
 
@@ -44,12 +44,12 @@ unfolding taken pass_fault
 taken_fault [] n rs = refl
 taken_fault (node p ∷ ss) n rs = by (ltb n 512) (taken_fault ss (n + 1) rs)
   where
-    by : (b : Bool) → (taken ss (record { nodes = n + 1; rules = rs })).1 ≡ pass_fault ss (n + 1) (length rs) → (cond b (taken ss (record { nodes = n + 1; rules = rs })) (record { nodes = n; rules = rs }, Some (tree-fault.TreeFull p))).1 ≡ cond b (pass_fault ss (n + 1) (length rs)) (Some (tree-fault.TreeFull p))
+    by : (b : Bool) → (taken ss (record { nodes = n + 1; rules = rs })).1 ≡ pass_fault ss (n + 1) (length rs) → (cond b (taken ss (record { nodes = n + 1; rules = rs })) (record { nodes = n; rules = rs }, Some (tree_fault.TreeFull p))).1 ≡ cond b (pass_fault ss (n + 1) (length rs)) (Some (tree_fault.TreeFull p))
     by true h = h
     by false h = refl
 taken_fault (rule r ∷ ss) n rs = by (ltb (length rs) 256) (taken_fault ss n (rs ++ r ∷ []))
   where
-    by : (b : Bool) → (taken ss (record { nodes = n; rules = rs ++ r ∷ [] })).1 ≡ pass_fault ss n (length (rs ++ r ∷ [])) → (cond b (taken ss (record { nodes = n; rules = rs ++ r ∷ [] })) (record { nodes = n; rules = rs }, Some (tree-fault.RulesFull r.place))).1 ≡ cond b (pass_fault ss n (length rs + 1)) (Some (tree-fault.RulesFull r.place))
+    by : (b : Bool) → (taken ss (record { nodes = n; rules = rs ++ r ∷ [] })).1 ≡ pass_fault ss n (length (rs ++ r ∷ [])) → (cond b (taken ss (record { nodes = n; rules = rs ++ r ∷ [] })) (record { nodes = n; rules = rs }, Some (tree_fault.RulesFull r.place))).1 ≡ cond b (pass_fault ss n (length rs + 1)) (Some (tree_fault.RulesFull r.place))
     by true h = h ∙ ap (pass_fault ss n) (length_push rs r)
     by false h = refl
 
@@ -63,7 +63,7 @@ module _ (m : Meaning) (t : List ℕ) where
   passes [] n known acc = refl
   passes (node p ∷ ss) n known acc = by (ltb n 512) (passes ss (n + 1) known acc)
     where
-      by : (b : Bool) → loading m t ss (n + 1) known acc ≡ both (all_fated m t (new_rules ss (n + 1) (length known)) known acc) (pass_fault ss (n + 1) (length known)) → cond b (loading m t ss (n + 1) known acc) (record { fates = known; accepted = acc; fault = Some (TreeFull p) }) ≡ both (all_fated m t (cond b (new_rules ss (n + 1) (length known)) []) known acc) (cond b (pass_fault ss (n + 1) (length known)) (Some (tree-fault.TreeFull p)))
+      by : (b : Bool) → loading m t ss (n + 1) known acc ≡ both (all_fated m t (new_rules ss (n + 1) (length known)) known acc) (pass_fault ss (n + 1) (length known)) → cond b (loading m t ss (n + 1) known acc) (record { fates = known; accepted = acc; fault = Some (TreeFull p) }) ≡ both (all_fated m t (cond b (new_rules ss (n + 1) (length known)) []) known acc) (cond b (pass_fault ss (n + 1) (length known)) (Some (tree_fault.TreeFull p)))
       by true h = h
       by false h = refl
   passes (rule r ∷ ss) n known acc = by (ltb (length known) 256) (inner (fated m acc (rule_said t r.rule)).fate (λ f. passes ss n (known ++ f ∷ []) (fated m acc (rule_said t r.rule)).accepted ∙ ap (λ k. both (all_fated m t (new_rules ss n k) (known ++ f ∷ []) (fated m acc (rule_said t r.rule)).accepted) (pass_fault ss n k)) (length_push known f)))
@@ -78,7 +78,7 @@ module _ (m : Meaning) (t : List ℕ) where
       inner (Some f) h = h f
       inner None h = refl
 
-      by : (b : Bool) → one (fated m acc (rule_said t r.rule)).fate ≡ both (all_fated m t (r ∷ new_rules ss n (length known + 1)) known acc) (pass_fault ss n (length known + 1)) → cond b (one (fated m acc (rule_said t r.rule)).fate) (record { fates = known; accepted = acc; fault = Some (RulesFull r.place) }) ≡ both (all_fated m t (cond b (r ∷ new_rules ss n (length known + 1)) []) known acc) (cond b (pass_fault ss n (length known + 1)) (Some (tree-fault.RulesFull r.place)))
+      by : (b : Bool) → one (fated m acc (rule_said t r.rule)).fate ≡ both (all_fated m t (r ∷ new_rules ss n (length known + 1)) known acc) (pass_fault ss n (length known + 1)) → cond b (one (fated m acc (rule_said t r.rule)).fate) (record { fates = known; accepted = acc; fault = Some (RulesFull r.place) }) ≡ both (all_fated m t (cond b (r ∷ new_rules ss n (length known + 1)) []) known acc) (cond b (pass_fault ss n (length known + 1)) (Some (tree_fault.RulesFull r.place)))
       by true h = h
       by false h = refl
 

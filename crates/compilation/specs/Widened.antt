@@ -2,8 +2,8 @@
 use Rattle.compilation.specs.declared.fault.LoadFault.{LoadFault}
 use Rattle.compilation.specs.declared.fault.LoadFault.TheVariants.{RulesFull, TreeFull}
 use Rattle.schema_tree.specs.declared.fault.TreeFault.{TreeFault}
-use Rattle.schema_tree.specs.declared.fault.TreeFault.TheVariants as tree-fault
+use Rattle.schema_tree.specs.declared.fault.TreeFault.TheVariants as tree_fault
 
 abbrev pub widen : TreeFault → LoadFault
-widen (tree-fault.TreeFull p) = TreeFull p
-widen (tree-fault.RulesFull p) = RulesFull p
+widen (tree_fault.TreeFull p) = TreeFull p
+widen (tree_fault.RulesFull p) = RulesFull p

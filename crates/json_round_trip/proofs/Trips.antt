@@ -53,7 +53,7 @@ reads_within s t a =
     (record { readable = g.readable; shallow = omega (arith, g.deep); few = omega (arith, g.many, a.few) }, g.long)
 
 pub reads_again : ReadsAgain
-reads_again source text stored stored-now entries entries-now i h texts same other =
+reads_again source text stored stored_now entries entries_now i h texts same other =
     let a : Accepted text h.tree = subst (Builds text) h.runs (builds text) in
     let w = reads_within text h.tree a in
     let v = value_of h.tree in

@@ -19,11 +19,11 @@ refused f = error.Refused f
 
 -- the answer and what is left are those of reading the compact text; without memory for it all is as it was
 abbrev pub Leaves : Source → Value → List ℕ → List Entry → Result ℕ CopyError → List ℕ → List Entry → Type 0
-Leaves source v stored entries (Ok i) stored-now entries-now =
-    outcome source stored entries (reading source (compact v) stored entries) ≡ record { answer = Ok i; text = stored-now; table = entries-now }
-Leaves source v stored entries (Err (error.Refused f)) stored-now entries-now =
-    outcome source stored entries (reading source (compact v) stored entries) ≡ record { answer = Err f; text = stored-now; table = entries-now }
-Leaves source v stored entries (Err error.NoMemory) stored-now entries-now = (stored-now ≡ stored) × (entries-now ≡ entries)
+Leaves source v stored entries (Ok i) stored_now entries_now =
+    outcome source stored entries (reading source (compact v) stored entries) ≡ record { answer = Ok i; text = stored_now; table = entries_now }
+Leaves source v stored entries (Err (error.Refused f)) stored_now entries_now =
+    outcome source stored entries (reading source (compact v) stored entries) ≡ record { answer = Err f; text = stored_now; table = entries_now }
+Leaves source v stored entries (Err error.NoMemory) stored_now entries_now = (stored_now ≡ stored) × (entries_now ≡ entries)
 
 -- the entry means the value that was copied, and only want of memory prevents it
 abbrev pub Means : Source → Value → Result ℕ CopyError → List ℕ → List Entry → Type 0
@@ -33,4 +33,4 @@ Means source v (Err error.NoMemory) stored entries = Unit {0}
 
 -- so it is with each value that a text can be read as, where there is room
 abbrev pub Copies : Source → Value → List ℕ → List Entry → Result ℕ CopyError → List ℕ → List Entry → Type 0
-Copies source v stored entries r stored-now entries-now = InLimits v → roomy (compact v) stored entries ≡ true → Means source v r stored-now entries-now
+Copies source v stored entries r stored_now entries_now = InLimits v → roomy (compact v) stored entries ≡ true → Means source v r stored_now entries_now

@@ -37,6 +37,6 @@ ReadsWithin = (s : List ℕ) (t : Tree) → Accepted s t → InLimits (value_of 
 -- so what was read, is written and is then read into an empty store and an empty table, is the same value
 abbrev pub ReadsAgain : Type 0
 ReadsAgain =
-    (source : Source) (text stored stored-now : List ℕ) (entries entries-now : List Entry) (i : ℕ) → Taken source text stored entries i stored-now entries-now
-    → (texts : Source → List ℕ) → texts source ≡ stored-now → (other : Source)
-    → Gives other (value_at texts entries-now i) (outcome other [] [] (reading other (compact (value_at texts entries-now i)) [] []))
+    (source : Source) (text stored stored_now : List ℕ) (entries entries_now : List Entry) (i : ℕ) → Taken source text stored entries i stored_now entries_now
+    → (texts : Source → List ℕ) → texts source ≡ stored_now → (other : Source)
+    → Gives other (value_at texts entries_now i) (outcome other [] [] (reading other (compact (value_at texts entries_now i)) [] []))

@@ -5,7 +5,7 @@ use Rattle.compilation.proofs.Passes.{both, two_passes}
 use Rattle.fixed.specs.Listed.{listed}
 use Rattle.rule_host.specs.Meaning.{Meaning}
 use Rattle.schema.specs.Laws.{rule_said}
-use Rattle.schema_tree.specs.Builds.{progress, fault_of as tree-fault-of}
+use Rattle.schema_tree.specs.Builds.{progress, fault_of as tree_fault_of}
 use Rattle.schema_tree.specs.Steps.{steps}
 use Rattle.schema_tree.specs.declared.node.RuleEntry.{RuleEntry}
 use Rattle.std.proofs.lemmas.Result.{err_from_is_err_and}
@@ -21,9 +21,9 @@ returns-in-Some g c =
     let tree = c.load-loaded.new.self in
     let e = c.in-Some.ensures in
     let f = c.load-loaded.ensures.taken in
-    let two = two_passes m t (steps 65 t es c.args.root) (progress tree) (tree-fault-of c.load-loaded.result) acc f in
+    let two = two_passes m t (steps 65 t es c.args.root) (progress tree) (tree_fault_of c.load-loaded.result) acc f in
     let x = e.fated ∙ ap (λ (z : List RuleEntry). all_fated m t z [] acc) c.rules.ensures.value in
-    record { kept = e.kept; loading = ap (λ (z : Fated). both z (tree-fault-of c.load-loaded.result)) x ∙ two; loaded = tt; named = tt }
+    record { kept = e.kept; loading = ap (λ (z : Fated). both z (tree_fault_of c.load-loaded.result)) x ∙ two; loaded = tt; named = tt }
 
 pub returns-in_err-root : goal.returns-in_err-root
 returns-in_err-root g c =

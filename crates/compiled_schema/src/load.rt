@@ -21,7 +21,7 @@ use std::alloc::{AllocError, Global};
 impl CompiledSchema {
     // Takes all its memory.
     pub fn new(heap: Global) -> Result<CompiledSchema, AllocError>
-        ensures { IfOk result (λ x. x.root ≡ nothing.root) }
+        ensures { IfOk result (λ x. held x ≡ nothing) }
     {
         let store = Store::new(heap)?;
         let table = FixedList::new(heap)?;

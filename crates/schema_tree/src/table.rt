@@ -22,7 +22,8 @@ pub const LEVELS: usize = 65;
 impl SchemaTree {
     // Takes all its memory.
     pub fn new(heap: Global) -> Result<SchemaTree, AllocError>
-        ensures { IfOk result (λ x. progress x ≡ unloaded) }
+        ensures progress { IfOk result (λ x. progress x ≡ unloaded) }
+        ensures tables { IfOk result (λ x. tables x ≡ record { nodes = []; rules = [] }) }
     {
         let nodes = FixedList::new(heap)?;
         let pending = FixedList::new(heap)?;

@@ -1,7 +1,7 @@
 // What is built of a text that is not at its end.
 ghost use Rattle.json_reader.specs.Building.{beginning_at, blank, cut, named, number_cell, numbered, opened, texted, valued};
 ghost use Rattle.json_reader.specs.Notes.{notes};
-ghost use Rattle.std.specs.Prelude.{◌≡◌};
+ghost use Rattle.std.specs.Prelude.{◌≡◌, IfOk};
 
 use fixed::list::FixedList;
 use json_scanner::modes::{Container, Numeral};
@@ -62,7 +62,9 @@ fn number_cell(minus: bool, size: u64) -> Cell
 }
 
 impl Builder {
-    pub fn new(heap: Global) -> Result<Builder, AllocError> {
+    pub fn new(heap: Global) -> Result<Builder, AllocError>
+        ensures { IfOk result (λ b. notes b ≡ blank 0) }
+    {
         let pending = FixedList::new(heap)?;
         let opens = FixedList::new(heap)?;
         Ok(Builder {

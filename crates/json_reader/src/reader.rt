@@ -1,12 +1,12 @@
 // A reader takes its memory when it is made, and then reads texts into stores and tables.
 ghost use Rattle.fixed.specs.Listed.{listed};
 ghost use Rattle.json_values.specs.Stored.{written};
-ghost use Rattle.json_reader.specs.Building.{building};
+ghost use Rattle.json_reader.specs.Building.{blank, building};
 ghost use Rattle.json_reader.specs.Law.{ReadsAs, ReadsOrdered};
 ghost use Rattle.json_reader.specs.Notes.{notes};
 ghost use Rattle.json_reader.specs.Reading.{beginning, outcome, reading};
 ghost use Rattle.json_scanner.specs.Machine.{fresh};
-ghost use Rattle.std.specs.Prelude.{◌≡◌, length, take, Ok, Err, MatchResult};
+ghost use Rattle.std.specs.Prelude.{◌≡◌, length, replicate, take, Ok, Err, IfOk, MatchResult};
 
 use super::bench::Bench;
 use super::builder::{Builder, VALUES};
@@ -56,7 +56,11 @@ pub fn reading_orders()
 {}
 
 impl Reader {
-    pub fn new(heap: Global) -> Result<Reader, AllocError> {
+    pub fn new(heap: Global) -> Result<Reader, AllocError>
+        ensures builder { IfOk result (λ r. notes r.builder ≡ blank 0) }
+        ensures numbers { IfOk result (λ r. r.bench.numbers.items ≡ replicate 4096 0) }
+        ensures scratch { IfOk result (λ r. r.bench.scratch.items ≡ replicate 4096 0) }
+    {
         let builder = Builder::new(heap)?;
         let bench = Bench::new(heap)?;
         Ok(Reader { builder, bench })

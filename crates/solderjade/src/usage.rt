@@ -1,4 +1,6 @@
 // What the program can do, for a person.
+ghost use Rattle.std.specs.Prelude.{◌≡◌, [], ◌∷◌, ◌++◌, IfOk};
+
 use super::failure::Failure;
 use std::alloc::Global;
 
@@ -11,7 +13,10 @@ pub const USAGE: &str = "usage: solderjade VERB WORD..
 
 Each answer is a line of its own.";
 
-pub fn help(heap: Global) -> Result<Vec<u8>, Failure> {
+// The text, and its line's end.
+pub fn help(heap: Global) -> Result<Vec<u8>, Failure>
+    ensures { IfOk result (λ v. v.items ≡ USAGE.now ++ 10 ∷ []) }
+{
     let mut text = Vec::from_slice(heap, USAGE.as_bytes())?;
     text.extend_from_slice(b"\n")?;
     Ok(text)

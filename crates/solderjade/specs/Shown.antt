@@ -1,6 +1,10 @@
 -- What the program prints of a conversion's answer.
 use Rattle.std.specs.Prelude.{ℕ, ◌+◌, ◌/◌, ◌%◌, cond, List, [], ◌∷◌, ◌++◌, ℤ, Some, None, codes, Option, nat_lt}
+use Rattle.base64_texts.specs.Base64.{decoded}
+use Rattle.durations.specs.Duration.{duration}
+use Rattle.escaping.specs.Escape.{escape}
 use Rattle.std.specs.List.{flat_map}
+use Rattle.std.specs.Str.{bytes_eq}
 use Rattle.std.specs.Fmt.{signed_decimal}
 
 -- the sign of a hexadecimal digit, in lower case
@@ -25,3 +29,12 @@ shown_bytes None = codes "text"
 -- the line of each word, with its end
 abbrev pub lines_of : (List ℕ → List ℕ) → List (List ℕ) → List ℕ
 lines_of line words = flat_map (λ w. line w ++ 10 ∷ []) words
+
+-- what a call prints, by its verb and the words behind it, where `usage` tells what the program can do; nothing where it is none
+abbrev pub answered : List ℕ → List (List ℕ) → Option (List ℕ)
+answered usage [] = None
+answered usage (verb ∷ words) =
+    cond (bytes_eq verb (codes "bytes")) (Some (lines_of (λ s. shown_bytes (decoded s)) words))
+    (cond (bytes_eq verb (codes "duration")) (Some (lines_of (λ s. shown_duration (duration s)) words))
+    (cond (bytes_eq verb (codes "escape")) (Some (lines_of (λ s. escape s) words))
+    (cond (bytes_eq verb (codes "help")) (Some (usage ++ 10 ∷ [])) None)))

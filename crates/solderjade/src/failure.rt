@@ -1,4 +1,7 @@
 // Why a call did not end well, and what a person is told of it.
+ghost use Rattle.std.specs.Prelude.{◌≡◌};
+ghost use Rattle.solderjade.specs.declared.failure.Failure.TheVariants as failure;
+
 use super::usage::USAGE;
 use std::alloc::{AllocError, AllocFailed};
 use std::io;
@@ -13,18 +16,24 @@ pub enum Failure {
 }
 
 impl From<AllocError> for Failure {
+    ghost from_gives = { λ _ r. r ≡ failure.Memory };
+
     fn from(_e: AllocError) -> Failure {
         Failure::Memory
     }
 }
 
 impl<T: Drop> From<AllocFailed<T>> for Failure {
+    ghost from_gives = { λ _ r. r ≡ failure.Memory };
+
     fn from(_e: AllocFailed<T>) -> Failure {
         Failure::Memory
     }
 }
 
 impl From<io::Error> for Failure {
+    ghost from_gives = { λ _ r. r ≡ failure.Io };
+
     fn from(_e: io::Error) -> Failure {
         Failure::Io
     }

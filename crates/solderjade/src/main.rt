@@ -1,6 +1,9 @@
 // The program: a verb and its words on the command line, and what it prints.
 #![tactic(auto)]
 
+ghost use Rattle.solderjade.specs.Shown.{answered};
+ghost use Rattle.std.specs.Prelude.{◌≡◌, map, Some, IfOk, string_bytes};
+
 mod bytes;
 mod duration;
 mod escape;
@@ -17,9 +20,12 @@ use std::alloc::Global;
 use std::env;
 use std::io::Write;
 use std::process::ExitCode;
+use usage::USAGE;
 
 // What a call prints, by its verb and the words behind it.
-fn answer(heap: Global, words: &[String]) -> Result<Vec<u8>, Failure> {
+fn answer(heap: Global, words: &[String]) -> Result<Vec<u8>, Failure>
+    ensures { IfOk result (λ v. answered USAGE.now (map string_bytes words.now) ≡ Some v.items) }
+{
     let [verb, rest @ ..] = words else {
         return Err(Failure::Usage);
     };

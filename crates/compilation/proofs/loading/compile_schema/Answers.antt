@@ -1,4 +1,4 @@
-use Rattle.std.proofs.Common.{◌≡◌, ℕ, List, [], map, Some, None, sym, ap, ◌∙◌, subst}
+use Rattle.std.proofs.Common.{◌≡◌, ℕ, List, [], map, Some, None, Option, sym, ap, ◌∙◌, subst}
 use Rattle.compilation.specs.Fates.{AllNamed, Fated, all_fated}
 use Rattle.compilation.proofs.Names.{fates_named}
 use Rattle.compilation.proofs.Passes.{both, two_passes}
@@ -6,7 +6,8 @@ use Rattle.fixed.specs.Listed.{listed}
 use Rattle.rule_host.specs.Meaning.{Meaning}
 use Rattle.schema.specs.Laws.{rule_said}
 use Rattle.schema_tree.specs.Builds.{progress, fault_of as tree_fault_of}
-use Rattle.schema_tree.specs.Steps.{steps}
+use Rattle.schema_tree.specs.Steps.{Progress, steps}
+use Rattle.schema_tree.specs.declared.fault.TreeFault.{TreeFault}
 use Rattle.schema_tree.specs.declared.node.RuleEntry.{RuleEntry}
 use Rattle.std.proofs.lemmas.Result.{err_from_is_err_and}
 use Rattle.compilation.proofs.loading.compile_schema.Goals as goal
@@ -23,7 +24,7 @@ returns-in-Some g c =
     let f = c.load-loaded.ensures.taken in
     let two = two_passes m t (steps 65 t es c.args.root) (progress tree) (tree_fault_of c.load-loaded.result) acc f in
     let x = e.fated ∙ ap (λ (z : List RuleEntry). all_fated m t z [] acc) c.rules.ensures.value in
-    record { kept = e.kept; loading = ap (λ (z : Fated). both z (tree_fault_of c.load-loaded.result)) x ∙ two; loaded = tt; named = tt }
+    record { kept = e.kept; loading = ap (λ (z : Fated). both z (tree_fault_of c.load-loaded.result)) x ∙ two; tree = ap (λ (z : Progress × Option TreeFault). z.0) f; loaded = tt; named = tt }
 
 pub returns-in_err-root : goal.returns-in_err-root
 returns-in_err-root g c =
@@ -41,6 +42,7 @@ returns-in_err-root g c =
     record {
       kept = e.kept;
       loading = rw (p.1, p.2) (ap (λ (z : Fated). both z (Some fault)) x ∙ two);
+      tree = ap (λ (z : Progress × Option TreeFault). z.0) c.in_err-root.ensures.taken;
       loaded = rw p.1 tt;
       named = rw p.1 tt;
     }
@@ -62,6 +64,7 @@ returns g c =
     record {
       kept = e.kept;
       loading = ap (λ (z : Fated). both z None) x ∙ two;
+      tree = ap (λ (z : Progress × Option TreeFault). z.0) f;
       loaded = c.in_ok-root.ensures.loaded;
       named = subst (λ (z : Fated). AllNamed z.accepted (map (λ (r : RuleEntry). rule_said t r.rule) rs) z.fates) (sym x) (fates_named m t rs [] [] acc tt none);
     }

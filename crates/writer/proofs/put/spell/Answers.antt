@@ -1,6 +1,6 @@
 use Rattle.std.proofs.Common.{ℕ, ◌/◌, ◌≤◌, ◌++◌, decimal, sym, ap, ◌∙◌, append-nil, arith, length-set, drop_of_length-le}
 use Rattle.writer.proofs.Digits.{room_some, digit_more, digit_first}
-use Rattle.writer.proofs.spell.Goals as goal
+use Rattle.writer.proofs.put.spell.Goals as goal
 
 div_lower : (left : ℕ) {n : ℕ} → left ≤ n → left / 10 ≤ n
 div_lower left h = omega arith

@@ -1,14 +1,17 @@
-// What holds things in memory that is taken once: a list with room for so many elements, and a short text by value.
+// What holds things in memory that is taken once: a list with room for so many elements, and a short text by value;
+// and where a run of bytes lies in such memory.
 #![tactic(auto)]
 
 pub mod list;
 pub mod refusal;
+pub mod slice;
 pub mod text;
 
 #[cfg(test)]
 mod tests {
     use super::list::FixedList;
     use super::refusal::{Full, Outside};
+    use super::slice::Slice;
     use super::text::{BoundedText, MOST};
     use std::test::Fail;
 
@@ -86,5 +89,13 @@ mod tests {
         assert!(rt; text != before);
         assert_eq!(rt; text.len(), MOST);
         assert_eq!(rt; text.append(b"a"), Err(Full));
+    }
+
+    #[test]
+    fn reads_what_is_there_of_a_slice(rt: HostRuntime) {
+        let bytes = b"statuses";
+        assert_eq!(rt; Slice { start: 2, len: 4 }.of(bytes), b"atus".as_slice());
+        assert_eq!(rt; Slice { start: 6, len: 4 }.of(bytes), b"es".as_slice());
+        assert_eq!(rt; Slice { start: 9, len: 4 }.of(bytes), b"".as_slice());
     }
 }

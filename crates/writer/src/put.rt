@@ -9,6 +9,7 @@ use crate::{BufferShort, ByteWriter};
 const DIGITS: usize = 20;
 
 impl<'a> ByteWriter<'a> {
+    #[tactic(auto, using(crate::proofs::Puts::put_mid_lem))]
     pub fn put(&mut self, bytes: &[u8]) -> Result<(), BufferShort>
         ensures { Writes self.old self.new bytes.now result }
     {
@@ -55,18 +56,20 @@ impl<'a> ByteWriter<'a> {
 }
 
 // Writes the digits of `n` at the end of `digits`, and says where they begin.
+#[tactic(auto, using(crate::proofs::Digits::begun, crate::proofs::Digits::room_some, crate::proofs::Digits::digit_more, crate::proofs::Digits::digit_first))]
 fn spell(n: u64, digits: &mut [u8; DIGITS]) -> usize
     ensures low { result ≤ 20 }
     ensures value { drop result digits.new ≡ decimal n }
 {
     let mut from = DIGITS;
     let mut left = n;
-    while left >= 10 {
+    // Counted by hand: a `for` over the places would need an answer for their end, which no number reaches.
+    loop {
         from -= 1;
         digits[from] = b'0' + (left % 10) as u8;
         left /= 10;
+        if left == 0 {
+            return from;
+        }
     }
-    from -= 1;
-    digits[from] = b'0' + left as u8;
-    from
 }

@@ -1,4 +1,4 @@
 pub mod Rows
 pub mod Entries
-pub mod Stores
+pub mod Keeps
 pub mod Seeks

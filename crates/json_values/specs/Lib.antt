@@ -3,4 +3,5 @@ pub mod Value
 pub mod Ordered
 pub mod Meaning
 pub mod Stored
+pub mod Texts
 pub mod Laws

@@ -1,5 +1,5 @@
 -- What a table of entries means over the texts that its parts name.
-use Rattle.std.specs.Prelude.{◌≡◌, ℕ, ◌+◌, ◌<◌, ◌≤◌, cond, List, [], ◌∷◌, ◌++◌, length, take, drop, Some, None, Ok, Err, Option, Result, MatchOption, ◌≢◌, nat_lt, slice_index_or}
+use Rattle.std.specs.Prelude.{◌≡◌, ℕ, Bool, ◌+◌, ◌<◌, ◌≤◌, cond, List, [], ◌∷◌, ◌++◌, length, take, drop, Some, None, Ok, Err, Option, Result, MatchOption, ◌≢◌, nat_lt, slice_index_or}
 use Rattle.std.specs.declared.cmp.Ordering.TheVariants.{Less}
 use Rattle.fixed.specs.declared.refusal.Full.{Full}
 use Rattle.json_values.specs.declared.parts.Part.{Part}
@@ -35,9 +35,9 @@ abbrev pub members_of : List Row → Members
 members_of [] = no_member
 members_of (r ∷ rs) = member r.key r.value (members_of rs)
 
--- the rows of a container's children
-abbrev pub children : List Row → Span → List Row
-children rows sp = take sp.count (drop sp.first rows)
+-- those of a container's children
+abbrev pub children : {X : Type 0} → List X → Span → List X
+children xs sp = take sp.count (drop sp.first xs)
 
 -- the value of a cell, where `rows` has what stands below it
 abbrev pub meaning : (Source → List ℕ) → List Row → Cell → Value
@@ -65,6 +65,43 @@ abbrev pub value_at : (Source → List ℕ) → List Entry → ℕ → Value
 value_at texts entries i = (slice_index_or (rows_of texts entries) i no_row).value
 
 -- ---- what is asked of a table
+
+-- the truth value, the text, the items and the members of a cell that has them
+abbrev pub bool_of : Cell → Option Bool
+bool_of cell.Null = None
+bool_of (cell.Bool b) = Some b
+bool_of (cell.Int z) = None
+bool_of (cell.Uint n) = None
+bool_of (cell.Text p) = None
+bool_of (cell.List sp) = None
+bool_of (cell.Map sp) = None
+
+abbrev pub part_in : Cell → Option Part
+part_in cell.Null = None
+part_in (cell.Bool b) = None
+part_in (cell.Int z) = None
+part_in (cell.Uint n) = None
+part_in (cell.Text p) = Some p
+part_in (cell.List sp) = None
+part_in (cell.Map sp) = None
+
+abbrev pub list_of : Cell → Option Span
+list_of cell.Null = None
+list_of (cell.Bool b) = None
+list_of (cell.Int z) = None
+list_of (cell.Uint n) = None
+list_of (cell.Text p) = None
+list_of (cell.List sp) = Some sp
+list_of (cell.Map sp) = None
+
+abbrev pub map_of : Cell → Option Span
+map_of cell.Null = None
+map_of (cell.Bool b) = None
+map_of (cell.Int z) = None
+map_of (cell.Uint n) = None
+map_of (cell.Text p) = None
+map_of (cell.List sp) = None
+map_of (cell.Map sp) = Some sp
 
 -- the children of a list or a map
 abbrev pub span_of : Cell → Option Span

@@ -1,20 +1,10 @@
 -- What a store holds.
-use Rattle.std.specs.Prelude.{ℕ, ◌-◌, List, ◌++◌, length, take, vec_items}
-use Rattle.json_values.specs.declared.parts.Source.{Source}
-use Rattle.json_values.specs.declared.parts.Source.TheVariants.{Schema, Record, Older}
-use Rattle.json_values.specs.declared.store.Store.{Store}
+use Rattle.std.specs.Prelude.{◌≡◌, ◌-◌, ◌≤◌, drop, vec_len}
+use Rattle.json_values.specs.declared.store.Store.TheInside.{Inside}
 use Rattle.json_values.specs.Zeros.{zeros}
 
--- the texts, joined
-abbrev pub written : Store → List ℕ
-written s = take s.len (vec_items s.bytes)
-
--- the 65,535 bytes of a store with these texts
-abbrev pub filled : List ℕ → List ℕ
-filled xs = xs ++ zeros (65535 - length xs)
-
--- the texts of each store
-abbrev pub texts_of : Store → Store → Store → Source → List ℕ
-texts_of schema rec older Schema = written schema
-texts_of schema rec older Record = written rec
-texts_of schema rec older Older = written older
+-- the texts stand at the front of the 65,535 bytes, and zeros behind them
+pub record Kept (s : Inside) : Type 0 where
+  pub long : vec_len s.bytes ≡ 65535
+  pub within : s.len ≤ 65535
+  pub blank : drop s.len s.bytes.items ≡ zeros (65535 - s.len)

@@ -1,22 +1,22 @@
 // JSON values in numbered tables over stores of bytes.
 #![tactic(auto)]
 
-mod held;
 pub mod parts;
-mod seek;
 pub mod store;
+pub mod stores;
 pub mod table;
+pub mod view;
 
-pub use held::{held_text, part_text};
-pub use seek::find_member;
+pub use stores::Stores;
 pub use table::add_entry;
+pub use view::View;
 
 #[cfg(test)]
 mod tests {
     use super::parts::{Part, Source};
     use super::store::Store;
     use super::table::{Cell, Entry, Span, Table};
-    use super::{find_member, held_text};
+    use super::{Stores, View};
     use std::test::Fail;
 
     fn part(source: Source, start: usize, len: usize) -> Part {
@@ -33,18 +33,14 @@ mod tests {
                 && record.append(b"status").is_ok()
                 && record.push(b'!').is_ok()
         );
-        assert_eq!(rt;
-            held_text(&schema, &record, &older, part(Source::Schema, 1, 2)),
-            b"pe".as_slice()
-        );
-        assert_eq!(rt;
-            held_text(&schema, &record, &older, part(Source::Record, 4, 9)),
-            b"us!".as_slice()
-        );
-        assert_eq!(rt;
-            held_text(&schema, &record, &older, part(Source::Older, 0, 1)),
-            b"".as_slice()
-        );
+        let stores = Stores {
+            schema: &schema,
+            record: &record,
+            older: &older,
+        };
+        assert_eq!(rt; stores.text(part(Source::Schema, 1, 2)), b"pe".as_slice());
+        assert_eq!(rt; stores.text(part(Source::Record, 4, 9)), b"us!".as_slice());
+        assert_eq!(rt; stores.text(part(Source::Older, 0, 1)), b"".as_slice());
         record.truncate(4);
         assert_eq!(rt; record.text(), b"stat".as_slice());
         assert_eq!(rt; record.bytes()[4], 0);
@@ -64,30 +60,20 @@ mod tests {
             };
             assert!(rt; table.push(entry).is_ok());
         }
+        let stores = Stores {
+            schema: &store,
+            record: &store,
+            older: &store,
+        };
+        let view = View {
+            stores,
+            entries: table.as_slice(),
+        };
         let all = Span { first: 0, count: 3 };
-        assert_eq!(rt;
-            find_member(&store, &store, &store, &table, all, b"bb"),
-            Some(1)
-        );
-        assert_eq!(rt;
-            find_member(&store, &store, &store, &table, all, b"c"),
-            Some(2)
-        );
-        assert_eq!(rt;
-            find_member(&store, &store, &store, &table, all, b"b"),
-            None
-        );
-        assert_eq!(rt;
-            find_member(
-                &store,
-                &store,
-                &store,
-                &table,
-                Span { first: 1, count: 9 },
-                b"a",
-            ),
-            None
-        );
+        assert_eq!(rt; view.member(all, b"bb"), Some(1));
+        assert_eq!(rt; view.member(all, b"c"), Some(2));
+        assert_eq!(rt; view.member(all, b"b"), None);
+        assert_eq!(rt; view.member(Span { first: 1, count: 9 }, b"a"), None);
         Ok(())
     }
 }

@@ -1,0 +1,43 @@
+// What stands in a table, over the stores that hold its texts.
+ghost use Rattle.std.specs.Prelude.{◌≡◌};
+ghost use Rattle.std.specs.List.{slice_get};
+ghost use Rattle.json_values.specs.Meaning.{Finds, part_of};
+ghost use Rattle.json_values.specs.Texts.{texts_of};
+
+use super::parts::Part;
+use super::stores::Stores;
+use super::table::{Entry, Span};
+use order::compare_bytes;
+
+// The entries of a table, and the stores that hold their texts.
+#[derive(Clone, Copy)]
+pub struct View<'a> {
+    pub stores: Stores<'a>,
+    pub entries: &'a [Entry],
+}
+
+impl<'a> View<'a> {
+    pub fn text(self, part: Part) -> &'a [u8]
+        ensures { result.now ≡ part_of (texts_of self.entry.stores) part }
+    {
+        self.stores.text(part)
+    }
+
+    // The entry with the number k.
+    pub fn entry(self, k: usize) -> Option<Entry>
+        ensures { result ≡ slice_get self.entry.entries.now k }
+    {
+        self.entries.get(k).copied()
+    }
+
+    // The number of the member of `span` that has the key, by halves: members stand in ascending order of their keys.
+    pub fn member(self, span: Span, key: &[u8]) -> Option<usize>
+        ensures { Finds (texts_of self.entry.stores) self.entry.entries.now span key.now result }
+    {
+        let members = span.of(self.entries);
+        let i = members
+            .binary_search_by(|member| compare_bytes(self.text(member.key), key))
+            .ok()?;
+        Some(span.first + i)
+    }
+}

@@ -1,176 +1,145 @@
 // A line for each rule that is not executed: where its node is in the schema, the rule, and why.
-use compilation::validation::{CompilationError, Validation};
+use compilation::validation::CompilationError;
 use compiled_schema::CompiledSchema;
 use json_values::part_text;
 use json_values::parts::Part;
 use json_writer::push_quoted;
 use schema::group::{Group, ORDER};
 use schema_tree::LEVELS;
-use schema_tree::node::Node;
+use schema_tree::node::{Node, RuleEntry};
 use std::alloc::{AllocError, Global};
 
-// Where a node is: the keys and indexes from the root on, or `root`.
-fn push_path(path: &[u8], out: &mut Vec<u8>) -> Result<(), AllocError> {
-    if path.is_empty() {
-        out.extend_from_slice(b"root")?;
-    } else {
-        out.extend_from_slice(path)?;
-    }
-    Ok(())
-}
-
-fn push_key(path: &mut Vec<u8>, key: &[u8]) -> Result<(), AllocError> {
-    if !path.is_empty() {
-        path.push(b'.')?;
-    }
-    path.extend_from_slice(key)?;
-    Ok(())
-}
-
-fn push_index(heap: Global, path: &mut Vec<u8>, index: usize) -> Result<(), AllocError> {
-    let digits = format!(in heap; "[{index}]")?;
-    path.extend_from_slice(digits.as_bytes())?;
-    Ok(())
-}
-
-// The link with that index of a group.
-fn push_link(
+// A walk over the nodes of a schema.
+#[derive(Drop)]
+struct Complaints<'a> {
     heap: Global,
-    schema: &CompiledSchema,
-    node: Node,
-    group: Group,
-    index: usize,
-    path: &mut Vec<u8>,
-) -> Result<(), AllocError> {
+    schema: &'a CompiledSchema,
+    // The keys and indexes from the root to the node; nothing at the root.
+    path: Vec<u8>,
+    lines: Vec<u8>,
+}
+
+// The key of a schema under which a group of links stands.
+fn key_of(group: Group) -> &'static [u8] {
     match group {
-        Group::Properties => {
-            push_key(path, b"properties")?;
-            let doc = schema.document();
-            let entry = node.targets.properties.first.saturating_add(index);
-            if entry < doc.entries.len() {
-                push_key(path, part_text(doc.text, doc.entries[entry].key))?;
+        Group::Properties => b"properties",
+        Group::Items => b"items",
+        Group::Additional => b"additionalProperties",
+        Group::AllOf => b"allOf",
+        Group::OneOf => b"oneOf",
+        Group::AnyOf => b"anyOf",
+    }
+}
+
+impl Complaints<'_> {
+    fn push_key(&mut self, key: &[u8]) -> Result<(), AllocError> {
+        if !self.path.is_empty() {
+            self.path.push(b'.')?;
+        }
+        self.path.extend_from_slice(key)?;
+        Ok(())
+    }
+
+    // The key of the property to which the link with that index leads.
+    fn push_property(&mut self, node: &Node, index: usize) -> Result<(), AllocError> {
+        let doc = self.schema.document();
+        let entry = node.targets.properties.first.saturating_add(index);
+        if let Some(property) = doc.entries.get(entry) {
+            self.push_key(part_text(doc.text, property.key))?;
+        }
+        Ok(())
+    }
+
+    // The link with that index of a group.
+    fn push_link(&mut self, node: &Node, group: Group, index: usize) -> Result<(), AllocError> {
+        self.push_key(key_of(group))?;
+        match group {
+            Group::Properties => self.push_property(node, index),
+            Group::Items | Group::Additional => Ok(()),
+            Group::AllOf | Group::OneOf | Group::AnyOf => {
+                let digits = format!(in self.heap; "[{index}]")?;
+                self.path.extend_from_slice(digits.as_bytes())
             }
         }
-        Group::Items => push_key(path, b"items")?,
-        Group::Additional => push_key(path, b"additionalProperties")?,
-        Group::AllOf => {
-            push_key(path, b"allOf")?;
-            push_index(heap, path, index)?;
-        }
-        Group::OneOf => {
-            push_key(path, b"oneOf")?;
-            push_index(heap, path, index)?;
-        }
-        Group::AnyOf => {
-            push_key(path, b"anyOf")?;
-            push_index(heap, path, index)?;
-        }
     }
-    Ok(())
-}
 
-fn push_quoted_part(
-    schema: &CompiledSchema,
-    part: Option<Part>,
-    out: &mut Vec<u8>,
-) -> Result<(), AllocError> {
-    if let Some(part) = part {
-        out.push(b' ')?;
-        push_quoted(part_text(schema.document().text, part), out)?;
-    }
-    Ok(())
-}
-
-// The line of the rule k, if it is not executed.
-fn push_rule(
-    schema: &CompiledSchema,
-    k: usize,
-    validation: Validation,
-    path: &[u8],
-    out: &mut Vec<u8>,
-) -> Result<(), AllocError> {
-    let Err(error) = validation else {
-        return Ok(());
-    };
-    let (text, message) = match schema.tree().rules().get(k) {
-        Some(entry) => match entry.rule {
-            Ok(rule) => (Some(rule.rule), rule.message_expression),
-            Err(_) => (None, None),
-        },
-        None => (None, None),
-    };
-    push_path(path, out)?;
-    out.extend_from_slice(b": rule")?;
-    push_quoted_part(schema, text, out)?;
-    match error {
-        CompilationError::InvalidRule => out.extend_from_slice(b": invalid rule definition")?,
-        CompilationError::Parse(why) => {
-            out.extend_from_slice(b": ")?;
-            out.extend_from_slice(why.as_bytes())?;
+    fn push_quoted_part(&mut self, part: Option<Part>) -> Result<(), AllocError> {
+        if let Some(part) = part {
+            self.lines.push(b' ')?;
+            push_quoted(
+                part_text(self.schema.document().text, part),
+                &mut self.lines,
+            )?;
         }
-        CompilationError::MessageExpressionParse(why) => {
-            out.extend_from_slice(b": message expression")?;
-            push_quoted_part(schema, message, out)?;
-            out.extend_from_slice(b": ")?;
-            out.extend_from_slice(why.as_bytes())?;
+        Ok(())
+    }
+
+    // The line of a rule that is not executed.
+    fn push_line(&mut self, entry: &RuleEntry, error: &CompilationError) -> Result<(), AllocError> {
+        let rule = entry.rule.ok();
+        if self.path.is_empty() {
+            self.lines.extend_from_slice(b"root")?;
         }
-    }
-    out.push(b'\n')?;
-    Ok(())
-}
-
-// The rules of a node.
-fn push_rules(
-    schema: &CompiledSchema,
-    node: Node,
-    path: &[u8],
-    out: &mut Vec<u8>,
-) -> Result<(), AllocError> {
-    let validations = schema.validations();
-    let first = node.rules.first.min(validations.len());
-    let end = first + node.rules.count.min(validations.len() - first);
-    for k in first..end {
-        push_rule(schema, k, validations[k], path, out)?;
-    }
-    Ok(())
-}
-
-// A node and all that its links lead to, of which so many levels are gone through: that bounds the recursion.
-#[cycle(push_nodes)]
-fn push_node(
-    heap: Global,
-    schema: &CompiledSchema,
-    node: Node,
-    levels: usize,
-    path: &mut Vec<u8>,
-    out: &mut Vec<u8>,
-) -> Result<(), AllocError> {
-    push_rules(schema, node, path.as_slice(), out)?;
-    if levels > 0 {
-        for k in 0..ORDER.len() {
-            push_group(heap, schema, node, ORDER[k], levels - 1, path, out)?;
+        self.lines.extend_from_slice(&self.path)?;
+        self.lines.extend_from_slice(b": rule")?;
+        self.push_quoted_part(rule.map(|rule| rule.rule))?;
+        match error {
+            CompilationError::InvalidRule => {
+                self.lines.extend_from_slice(b": invalid rule definition")?
+            }
+            CompilationError::Parse(why) => {
+                self.lines.extend_from_slice(b": ")?;
+                self.lines.extend_from_slice(why.as_bytes())?;
+            }
+            CompilationError::MessageExpressionParse(why) => {
+                self.lines.extend_from_slice(b": message expression")?;
+                self.push_quoted_part(rule.and_then(|rule| rule.message_expression))?;
+                self.lines.extend_from_slice(b": ")?;
+                self.lines.extend_from_slice(why.as_bytes())?;
+            }
         }
+        self.lines.push(b'\n')?;
+        Ok(())
     }
-    Ok(())
-}
 
-#[cycle(push_nodes)]
-fn push_group(
-    heap: Global,
-    schema: &CompiledSchema,
-    node: Node,
-    group: Group,
-    levels: usize,
-    path: &mut Vec<u8>,
-    out: &mut Vec<u8>,
-) -> Result<(), AllocError> {
-    let len = path.len();
-    for (index, next) in schema.tree().linked(node, group).iter().enumerate() {
-        push_link(heap, schema, node, group, index, path)?;
-        push_node(heap, schema, *next, levels, path, out)?;
-        path.truncate(len);
+    // The rules of a node.
+    fn push_rules(&mut self, node: &Node) -> Result<(), AllocError> {
+        let rules = self.schema.tree().rules().iter();
+        let validations = self.schema.validations().iter();
+        for (entry, validation) in rules
+            .zip(validations)
+            .skip(node.rules.first)
+            .take(node.rules.count)
+        {
+            if let Err(error) = validation {
+                self.push_line(entry, error)?;
+            }
+        }
+        Ok(())
     }
-    Ok(())
+
+    // A node and all that its links lead to, of which so many levels are gone through: that bounds the recursion.
+    #[cycle(push_nodes)]
+    fn push_node(&mut self, node: &Node, levels: usize) -> Result<(), AllocError> {
+        self.push_rules(node)?;
+        if levels > 0 {
+            for group in ORDER {
+                self.push_group(node, group, levels - 1)?;
+            }
+        }
+        Ok(())
+    }
+
+    #[cycle(push_nodes)]
+    fn push_group(&mut self, node: &Node, group: Group, levels: usize) -> Result<(), AllocError> {
+        let len = self.path.len();
+        for (index, next) in self.schema.tree().linked(*node, group).iter().enumerate() {
+            self.push_link(node, group, index)?;
+            self.push_node(next, levels)?;
+            self.path.truncate(len);
+        }
+        Ok(())
+    }
 }
 
 // Appends a line for each rule that is invalid or ill, in loading order.
@@ -179,12 +148,19 @@ pub fn push_complaints(
     schema: &CompiledSchema,
     out: &mut Vec<u8>,
 ) -> Result<(), AllocError> {
-    let Some(root) = schema.root() else {
+    let Some(node) = schema
+        .root()
+        .and_then(|root| schema.tree().nodes().get(root))
+    else {
         return Ok(());
     };
-    let Some(node) = schema.tree().nodes().get(root) else {
-        return Ok(());
+    let mut complaints = Complaints {
+        heap,
+        schema,
+        path: Vec::new(heap),
+        lines: Vec::new(heap),
     };
-    let mut path = Vec::new(heap);
-    push_node(heap, schema, *node, LEVELS, &mut path, out)
+    complaints.push_node(node, LEVELS)?;
+    out.extend_from_slice(&complaints.lines)?;
+    Ok(())
 }

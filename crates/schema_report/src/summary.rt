@@ -1,12 +1,13 @@
 // How many nodes and rules a schema has, and how many of its rules are not executed.
-ghost use Rattle.std.specs.Prelude.{◌≡◌, ◌+◌, ◌≤◌, ◌++◌, length, OnOk};
+ghost use Rattle.std.specs.Prelude.{◌≡◌, ◌++◌, OnOk, Some};
 ghost use Rattle.compilation.specs.Compiled.{fate_of};
 ghost use Rattle.compiled_schema.specs.Holds.{held};
-ghost use Rattle.schema_report.specs.Counted.{ill_one, invalid_one, summary_line, summary_of};
+ghost use Rattle.schema_report.specs.Counted.{is_ill, is_invalid, summary_line, summary_of, summary_text};
 
 use compilation::validation::{CompilationError, Validation};
 use compiled_schema::CompiledSchema;
 use std::alloc::{AllocError, Global};
+use std::fmt;
 
 #[derive(Clone, Copy, PartialEq, Eq, Debug)]
 pub struct Summary {
@@ -16,21 +17,35 @@ pub struct Summary {
     pub ill: usize,
 }
 
-fn is_invalid(validation: Validation) -> usize
-    ensures { result ≡ invalid_one (fate_of validation) }
-{
-    match validation {
-        Err(CompilationError::InvalidRule) => 1,
-        _ => 0,
+impl fmt::Display for Summary {
+    ghost output = { λ s. Some (summary_text s) };
+
+    fn fmt<W: fmt::Write>(&self, f: &mut fmt::Formatter<W>) -> fmt::Result {
+        let Summary {
+            nodes,
+            rules,
+            invalid,
+            ill,
+        } = self;
+        write!(
+            f,
+            "{nodes} nodes, {rules} rules, {invalid} invalid, {ill} ill"
+        )
     }
 }
 
-fn is_ill(validation: Validation) -> usize
-    ensures { result ≡ ill_one (fate_of validation) }
+fn is_invalid(validation: &Validation) -> bool
+    ensures { result ≡ is_invalid (fate_of validation.now) }
+{
+    matches!(validation, Err(CompilationError::InvalidRule))
+}
+
+fn is_ill(validation: &Validation) -> bool
+    ensures { result ≡ is_ill (fate_of validation.now) }
 {
     match validation {
-        Err(CompilationError::Parse(_)) | Err(CompilationError::MessageExpressionParse(_)) => 1,
-        _ => 0,
+        Err(CompilationError::Parse(_)) | Err(CompilationError::MessageExpressionParse(_)) => true,
+        Ok(_) | Err(CompilationError::InvalidRule) => false,
     }
 }
 
@@ -39,17 +54,11 @@ pub fn summarize(schema: &CompiledSchema) -> Summary
     ensures { result ≡ summary_of (held schema.now) }
 {
     let validations = schema.validations();
-    let mut invalid: usize = 0;
-    let mut ill: usize = 0;
-    for validation in validations {
-        invalid += is_invalid(*validation);
-        ill += is_ill(*validation);
-    }
     Summary {
         nodes: schema.tree().nodes().len(),
         rules: validations.len(),
-        invalid,
-        ill,
+        invalid: validations.iter().filter(|v| is_invalid(v)).count(),
+        ill: validations.iter().filter(|v| is_ill(v)).count(),
     }
 }
 
@@ -57,11 +66,7 @@ pub fn summarize(schema: &CompiledSchema) -> Summary
 pub fn push_summary(heap: Global, summary: Summary, out: &mut Vec<u8>) -> Result<(), AllocError>
     ensures { OnOk result (out.new.items ≡ out.old.items ++ summary_line summary) }
 {
-    let nodes = summary.nodes;
-    let rules = summary.rules;
-    let invalid = summary.invalid;
-    let ill = summary.ill;
-    let line = format!(in heap; "{nodes} nodes, {rules} rules, {invalid} invalid, {ill} ill\n")?;
+    let line = format!(in heap; "{summary}\n")?;
     out.extend_from_slice(line.as_bytes())?;
     Ok(())
 }

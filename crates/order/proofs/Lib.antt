@@ -2,4 +2,3 @@ pub mod Bytewise
 pub mod Merges
 pub mod Runs
 pub mod Stable
-pub mod Steps

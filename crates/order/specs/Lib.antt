@@ -1,5 +1,4 @@
 pub mod Bytes
 pub mod Keyed
 pub mod Merging
-pub mod Preorders
 pub mod Sorted

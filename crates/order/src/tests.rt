@@ -1,8 +1,9 @@
 // Examples of the byte order and of the sort.
-ghost use Rattle.std.specs.Prelude.{◌/◌};
-ghost use Rattle.order.specs.Keyed.{by_number};
+ghost use Rattle.std.specs.Prelude.{◌≡◌, ◌/◌, drop};
+ghost use Rattle.order.specs.Keyed.{by_bytes, by_bytes_total, by_number, by_number_total};
 
 use super::*;
+use std::array::from_fn;
 use std::cmp::Ordering;
 use std::process::Abort;
 use std::test::Fail;
@@ -11,10 +12,35 @@ use std::test::Fail;
 struct Tens;
 
 impl Ranking for Tens {
-    ghost rank = { λ _. by_number (λ n. n / 10) };
+    ghost compares = { λ _. by_number (λ n. n / 10) };
+
+    ghost laws = { λ _. by_number_total (λ n. n / 10) };
 
     fn compare(&self, a: usize, b: usize) -> Ordering {
         (a / 10).cmp(&(b / 10))
+    }
+}
+
+// Ranks places of a text by what follows them there.
+struct Suffixes<'a> {
+    text: &'a [u8],
+}
+
+impl Suffixes<'_> {
+    fn suffix(&self, place: usize) -> &[u8]
+        ensures { result.now ≡ drop place self.now.text.now }
+    {
+        &self.text[place.min(self.text.len())..]
+    }
+}
+
+impl Ranking for Suffixes<'_> {
+    ghost compares = { λ s. by_bytes (λ place. drop place s.text.now) };
+
+    ghost laws = { λ s. by_bytes_total (λ place. drop place s.text.now) };
+
+    fn compare(&self, a: usize, b: usize) -> Ordering {
+        compare_bytes(self.suffix(a), self.suffix(b))
     }
 }
 
@@ -53,13 +79,18 @@ fn small_sorts(rt: HostRuntime) -> Result<(), Fail> {
 
 #[test]
 fn long_sort(rt: HostRuntime) -> Result<(), Fail> {
-    let mut numbers = [0; 33];
-    let mut expected = [0; 33];
-    for i in 0..33 {
-        numbers[i] = 10 * (32 - i);
-        expected[i] = 10 * i;
-    }
+    let mut numbers: [usize; 33] = from_fn(|i| 10 * (32 - i));
+    let expected: [usize; 33] = from_fn(|i| 10 * i);
     sorts_to(&rt, &mut numbers, &expected)
+}
+
+#[test]
+fn byte_keys(rt: HostRuntime) -> Result<(), Fail> {
+    let mut places = [0, 1, 2, 3, 4, 5];
+    let mut scratch = [0; 6];
+    sort_numbers(&Suffixes { text: b"banana" }, &mut places, &mut scratch)?;
+    assert!(rt; places == [5, 3, 1, 0, 4, 2]);
+    Ok(())
 }
 
 #[test]

@@ -3,4 +3,3 @@ pub mod Collide
 pub mod Pieces
 pub mod Steps
 pub mod Walk
-pub mod Compares

@@ -1,11 +1,14 @@
--- A walk over the bytes of an escape: a piece, the rest of the name, and what stands behind it.
-use Rattle.std.proofs.Common.{◌≡◌, ℕ, ◌-◌, ◌<◌, ◌≤◌, Bool, true, false, cond, ◌&&◌, List, [], ◌∷◌, ◌++◌, length, get_or, take, drop, codes, sym, refl, ap, ◌∙◌, ⊎_elim, append_assoc, append-nil, arith}
+-- The pieces of an escape: reserved words, and what stands around the signs of a name.
+use Rattle.std.proofs.Common.{◌≡◌, ℕ, Bool, true, false, cond, ◌&&◌, List, [], ◌∷◌, ◌++◌, Bor, codes, sym, refl, ap, ◌∙◌, ⊎_elim, append-nil}
+use Rattle.std.specs.Bool.{then_some}
+use Rattle.std.specs.List.{concat}
+use Rattle.std.proofs.lemmas.List.Folds.{concat-append}
 use Rattle.std.specs.Str.{bytes_eq}
 use Rattle.std.proofs.lemmas.Slice.Eq.{bytes_eq-Decides}
-use Rattle.std.proofs.lemmas.Slice.{first_rest}
 use Rattle.std.proofs.lemmas.Bool.{and_parts, false≢true, or_cases}
-use Rattle.escaping.specs.Escape.{escape, member, replaced, reserved, words, wrapped}
-use Rattle.escaping.proofs.Steps.{replaced_none}
+use Rattle.escaping.specs.Escape.{escape, member, replaced, reserved, signs, words, wrapped}
+use Rattle.escaping.specs.Left.{beside}
+use Rattle.escaping.proofs.Pieces.{signs_joined}
 
 -- ---- reserved words have no sign that is written out
 
@@ -28,36 +31,16 @@ words-plain : all_plain words ≡ true
 unfolding replaced
 words-plain = refl
 
--- ---- the start
+-- ---- the whole
 
-pub begins_word : (s : List ℕ) → reserved s ≡ true → codes "__" ++ (replaced s ++ codes "__") ≡ escape s
+by_around : (s : List ℕ) (b : Bool) (around : Bor (List ℕ)) → reserved s ≡ b → around.now ≡ codes "__" → concat (beside (then_some b around) ++ (signs s ++ beside (then_some b around))) ≡ escape s
 unfolding escape
-begins_word s r =
-    ap (λ t. codes "__" ++ (t ++ codes "__")) (member-plain s words words-plain r) ∙ sym (ap (λ b. cond b (wrapped s) (replaced s)) r)
+by_around s true around r e =
+    let one : concat (around.now ∷ []) ≡ codes "__" = append-nil around.now ∙ e in
+    let text : concat (signs s ++ (around.now ∷ [])) ≡ s ++ codes "__" = concat-append (signs s) (around.now ∷ []) ∙ (ap (λ t. concat (signs s) ++ t) one ∙ ap (λ t. t ++ codes "__") (signs_joined s ∙ member-plain s words words-plain r)) in
+    ap (λ t. t ++ concat (signs s ++ (around.now ∷ []))) e ∙ (ap (λ t. codes "__" ++ t) text ∙ sym (ap (λ b. cond b (wrapped s) (replaced s)) r))
+by_around s false around r e =
+    ap concat (append-nil (signs s)) ∙ (signs_joined s ∙ sym (ap (λ b. cond b (wrapped s) (replaced s)) r))
 
-pub begins_other : (s : List ℕ) → reserved s ≡ false → [] ++ (replaced s ++ []) ≡ escape s
-unfolding escape
-begins_other s r = append-nil (replaced s) ∙ sym (ap (λ b. cond b (wrapped s) (replaced s)) r)
-
--- ---- the next piece
-
-module _ (piece name end : List ℕ) (spent : piece ≡ []) where
-  pub refill_some : (text rest : List ℕ) → replaced name ≡ text ++ replaced rest → text ++ (replaced rest ++ end) ≡ piece ++ (replaced name ++ end)
-  refill_some text rest s =
-      sym (ap (λ p. p ++ (replaced name ++ end)) spent ∙ (ap (λ t. t ++ end) s ∙ append_assoc text (replaced rest) end))
-
-  pub refill_none : name ≡ [] → end ++ (replaced name ++ []) ≡ piece ++ (replaced name ++ end)
-  refill_none n =
-      let none = replaced_none name n in
-      ap (λ t. end ++ (t ++ [])) none ∙ (append-nil end ∙ sym (ap (λ p. p ++ (replaced name ++ end)) spent ∙ ap (λ t. t ++ end) none))
-
-pub some_left : {P : Type 0} (text : List ℕ) → 0 < length text → text ≡ [] → P
-some_left text h e = let n : length text ≡ 0 = ap length e in absurd (omega arith)
-
-pub all_spent : (name end : List ℕ) → name ≡ [] → end ≡ [] → end ++ (replaced name ++ []) ≡ []
-all_spent name end n e = ap (λ t. t ++ (replaced name ++ [])) e ∙ ap (λ t. t ++ []) (replaced_none name n)
-
--- ---- the next byte
-
-pub next_byte : (piece rest : List ℕ) → 1 ≤ length piece → piece ++ rest ≡ get_or piece 0 0 ∷ (take (length piece - 1) (drop 1 piece) ++ rest)
-next_byte piece rest h = ap (λ p. p ++ rest) (first_rest piece 0 (omega arith))
+pub pieces_joined : (s : List ℕ) (b : Bool) (around : Bor (List ℕ)) → b ≡ reserved s → around.now ≡ codes "__" → concat (beside (then_some b around) ++ (signs s ++ beside (then_some b around))) ≡ escape s
+pieces_joined s b around r e = by_around s b around (sym r) e

@@ -23,6 +23,12 @@ replaced [] = []
 replaced (a ∷ []) = sign a
 replaced (a ∷ (b ∷ s)) = cond (a == 95 && b == 95) (codes "__underscores__" ++ replaced s) (sign a ++ replaced (b ∷ s))
 
+-- the same, each sign a text of its own
+unfoldable pub signs : List ℕ → List (List ℕ)
+signs [] = []
+signs (a ∷ []) = sign a ∷ []
+signs (a ∷ (b ∷ s)) = cond (a == 95 && b == 95) (codes "__underscores__" ∷ signs s) (sign a ∷ signs (b ∷ s))
+
 -- a reserved word, with `__` on both sides
 abbrev pub wrapped : List ℕ → List ℕ
 wrapped s = codes "__" ++ (s ++ codes "__")

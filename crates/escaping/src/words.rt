@@ -1,6 +1,6 @@
 // The words of the rule language that no field can go by.
-ghost use Rattle.escaping.specs.Escape.{member, reserved};
-ghost use Rattle.std.specs.Prelude.{◌≡◌, map};
+ghost use Rattle.escaping.specs.Escape.{reserved};
+ghost use Rattle.std.specs.Prelude.{◌≡◌};
 
 const WORDS: [&[u8]; 21] = [
     b"true",
@@ -26,14 +26,8 @@ const WORDS: [&[u8]; 21] = [
     b"while",
 ];
 
-fn among(words: &[&[u8]], name: &[u8]) -> bool
-    ensures { result ≡ member name.now (map (λ x. x.now) words.now) }
-{
-    (&*words).contains(&name)
-}
-
 pub fn is_reserved(name: &[u8]) -> bool
     ensures { result ≡ reserved name.now }
 {
-    among(&WORDS, name)
+    WORDS.contains(&name)
 }

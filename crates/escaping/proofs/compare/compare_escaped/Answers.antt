@@ -1,49 +1,34 @@
-use Rattle.std.proofs.Common.{◌≡◌, ℕ, List, Some, None, Option, Less, Equal, Greater, sym, ◌∙◌, arith, MatchOption}
-use Rattle.std.proofs.lemmas.Cmp.{ranked}
-use Rattle.order.specs.Bytes.{compare_bytes}
+use Rattle.std.proofs.Common.{◌≡◌, sym, refl, ap, ◌∙◌}
+use Rattle.std.specs.Ordering.{nat_cmp}
+use Rattle.std.specs.List.{flat_map}
+use Rattle.std.specs.Cmp.Lexicographic.{slice_cmp}
+use Rattle.std.proofs.lemmas.List.Concat.{concat_is}
+use Rattle.std.proofs.lemmas.Iterator.Adapters.{YieldsList-from_flatten}
+use Rattle.std.proofs.lemmas.Iterator.Consumers.{YieldsList-at, YieldsList-from_first}
+use Rattle.std.proofs.lemmas.Iterator.Search.{cmp_from_yields_List}
+use Rattle.std.proofs.lemmas.Iterator.{YieldsList-from_slice}
+use Rattle.order.proofs.Bytewise.{bytes_same}
+use Rattle.order.specs.Keyed.{bytes_lexical}
 use Rattle.escaping.specs.Escape.{escape}
-use Rattle.escaping.specs.Left.{bytes_left}
-use Rattle.escaping.proofs.Compares.{both_done, first_done, heads_apart, heads_same, same_names, second_done}
+use Rattle.escaping.specs.Left.{pieces_left}
+use Rattle.escaping.proofs.Collide.{no_collision}
 use Rattle.escaping.proofs.compare.compare_escaped.Goals as goal
 
--- the two strings put in for what they are
-put_in : (xs ys : List ℕ) {xs' ys' : List ℕ} → xs ≡ xs' → ys ≡ ys' → compare_bytes xs ys ≡ compare_bytes xs' ys'
-put_in xs ys p q = λ i. compare_bytes (p i) (q i)
+answer : goal.returns-clause-answer
+answer c =
+    let a = pieces_left c.of.result in
+    let b = pieces_left c.of-2.result in
+    let left = c.flatten.ensures in
+    let right = c.flatten-2.ensures in
+    let e : c.cmp.result ≡ slice_cmp nat_cmp (flat_map (λ x. x) a) (flat_map (λ x. x) b) =
+    cmp_from_yields_List (λ x y. y ≡ x) _ nat_cmp c.cmp.result c.cmp.ensures.ran
+    (YieldsList-from_flatten _ _ (λ x. x.now) (λ x. x) (λ x j p. YieldsList-from_slice x.now p.0) (YieldsList-from_first (λ x. x.now) pieces_left a (ap pieces_left left.source)) left.front left.back left.done)
+    (λ it same. YieldsList-at same (YieldsList-from_flatten _ _ (λ x. x.now) (λ x. x) (λ x j p. YieldsList-from_slice x.now p.0) (YieldsList-from_first (λ x. x.now) pieces_left b (ap pieces_left right.source)) right.front right.back right.done))
+    (λ x y. refl) in
+    e ∙ (λ i. slice_cmp nat_cmp ((sym (concat_is a) ∙ c.of.ensures) i) ((sym (concat_is b) ∙ c.of-2.ensures) i)) ∙ sym (bytes_lexical (escape c.args.a.now) (escape c.args.b.now))
 
-at_none : {X : Type 0} (P : Type 0) (Q : X → Type 0) (o : Option X) → MatchOption o P Q → o ≡ None → P
-at_none P Q None h e = h
-at_none P Q (Some x) h e = let z : ◌≡◌ {A = ℕ} 0 1 = cc in absurd (omega arith)
+pub returns-clause-answer : goal.returns-clause-answer
+returns-clause-answer c = answer c
 
-pub loop-x-init : goal.loop-x-init
-loop-x-init c = put_in (bytes_left c.of-left.result) (bytes_left c.of-right.result) c.of-left.ensures c.of-right.ensures
-
-pub returns-in-None-None : goal.returns-in-None-None
-returns-in-None-None c =
-    let done = at_none _ _ c.next.result c.next.ensures c.in-None-None.is-0 in
-    let e : Equal ≡ compare_bytes (escape c.args.a.now) (escape c.args.b.now) = sym (put_in (bytes_left c.loop-x.left) (bytes_left c.loop-x.right) done c.in-None-None.ensures ∙ both_done) ∙ c.loop-x.invariant in
-    record { answer = e; same = same_names c.args.a.now c.args.b.now Equal e }
-
-pub returns-in-None-Some : goal.returns-in-None-Some
-returns-in-None-Some c =
-    let done = at_none _ _ c.next.result c.next.ensures c.in-None-Some.is-0 in
-    let e : Less ≡ compare_bytes (escape c.args.a.now) (escape c.args.b.now) = sym (put_in (bytes_left c.loop-x.left) (bytes_left c.loop-x.right) done c.in-None-Some.ensures ∙ first_done _ _) ∙ c.loop-x.invariant in
-    record { answer = e; same = same_names c.args.a.now c.args.b.now Less e }
-
-pub returns-in-Some-None : goal.returns-in-Some-None
-returns-in-Some-None c =
-    let e : Greater ≡ compare_bytes (escape c.args.a.now) (escape c.args.b.now) = sym (put_in (bytes_left c.loop-x.left) (bytes_left c.loop-x.right) c.in-Some-None.ensures c.in-Some-None.ensures' ∙ second_done _ _) ∙ c.loop-x.invariant in
-    record { answer = e; same = same_names c.args.a.now c.args.b.now Greater e }
-
-pub returns-then-x-y : goal.returns-then-x-y
-returns-then-x-y c =
-    let x = c.in-Some-Some.x in
-    let y = c.in-Some-Some.y in
-    let apart : x ≡ y → ⊥ = λ h. omega arith in
-    let e : c.cmp.result ≡ compare_bytes (escape c.args.a.now) (escape c.args.b.now) = sym (put_in (bytes_left c.loop-x.left) (bytes_left c.loop-x.right) c.in-Some-Some.ensures c.in-Some-Some.ensures' ∙ heads_apart x y _ _ c.cmp.result apart (ranked x y c.cmp.result c.cmp.ensures)) ∙ c.loop-x.invariant in
-    record { answer = e; same = same_names c.args.a.now c.args.b.now c.cmp.result e }
-
-pub loop-x-preserved : goal.loop-x-preserved
-loop-x-preserved c =
-    let x = c.in-Some-Some.x in
-    let y = c.in-Some-Some.y in
-    sym (put_in (bytes_left c.loop-x.left) (bytes_left c.loop-x.right) c.in-Some-Some.ensures c.in-Some-Some.ensures' ∙ heads_same x y _ _ (omega arith)) ∙ c.loop-x.invariant
+pub returns-clause-same : goal.returns-clause-same
+returns-clause-same c e = no_collision c.args.a.now c.args.b.now (bytes_same (escape c.args.a.now) (escape c.args.b.now) (sym (answer c) ∙ e))

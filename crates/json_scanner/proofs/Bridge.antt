@@ -9,11 +9,12 @@ use Rattle.json_scanner.specs.declared.modes.Numeral.{Numeral}
 use Rattle.json_scanner.specs.declared.modes.Ready.{Ready}
 use Rattle.json_scanner.specs.declared.modes.Step.{Step}
 use Rattle.json_scanner.specs.declared.modes.Container.{Container}
+use Rattle.json_scanner.specs.declared.modes.Container.TheVariants as container
 use Rattle.json_scanner.specs.declared.modes.Figures.{Figures}
 use Rattle.json_scanner.specs.declared.modes.Figures.TheVariants as figures
 use Rattle.json_scanner.specs.Grammar.{Tree}
 use Rattle.json_scanner.proofs.Cases.{by_cond, no}
-use Rattle.json_scanner.specs.Bytes.{Move, moved, readied, settled, settled_figures, figure, then}
+use Rattle.json_scanner.specs.Bytes.{Moved, moved, readied, settled, settled_figures, figure, then}
 use Rattle.json_scanner.specs.Machine.{Control, State, Frame, bare, sole, items, fields, field, kind, kinds, put, naming, wrapped, surroundings, innermost, arranged, counted, arrived, turned, settled_end, finish, scan, forgotten, control, closed, performed, with_number, with_ended, prepared, carried, stepped, step, ended, finished, run}
 
 kind-put : (f : Frame) (v : Tree) → kind (put f v) ≡ kind f
@@ -53,16 +54,14 @@ tracks_close m n cs f (g ∷ gs) = ap (made m n) (kinds-put g (wrapped f) gs)
 tracks : (a : Act) (m : Mode) (st : State) → made m (counted a st.values) (arranged a (kinds st.top st.below)) ≡ control (performed a m st)
 tracks act.Stay m st = refl
 tracks act.Begin m st = refl
-tracks act.OpenList m st = refl
-tracks act.OpenObject m st = refl
+tracks (act.Open container.List) m st = refl
+tracks (act.Open container.Object) m st = refl
 tracks act.Close m st = tracks_close m st.values st.chars st.top st.below
-tracks (act.Byte b) m st = refl
-tracks (act.Char c) m st = refl
+tracks (act.Add p) m st = refl
 tracks act.Key m st = ap (made m st.values) (kinds-naming st.top st.chars st.below)
 tracks act.Text m st = ap (made m st.values) (kinds-put st.top (Tree.text st.chars) st.below)
 tracks act.Null m st = ap (made m st.values) (kinds-put st.top Tree.null st.below)
-tracks act.True m st = ap (made m st.values) (kinds-put st.top (Tree.bool _) st.below)
-tracks act.False m st = ap (made m st.values) (kinds-put st.top (Tree.bool _) st.below)
+tracks (act.Bool b) m st = ap (made m st.values) (kinds-put st.top (Tree.bool b) st.below)
 
 -- the scanner's answer beside the state that is built
 abbrev pub Tracks : Result (Control × Step) Fault → Result State Fault → Type 0
@@ -71,16 +70,16 @@ Tracks (Ok x) (Err f) = ⊥
 Tracks (Err f) (Ok st) = ⊥
 Tracks (Err f) (Err g) = f ≡ g
 
-moved_tracks : (i b : ℕ) (r : Ready) (cs : List Container) (st : State) (mv : Move) → cs ≡ kinds st.top st.below → r.values ≡ st.values → Tracks (then mv (λ m. Ok (arrived cs r m))) (carried mv st)
-moved_tracks i b r cs st (Ok m) e h = ap (λ c. made m.0 (counted m.1 r.values) (arranged m.1 c)) e ∙ (ap (λ n. made m.0 (counted m.1 n) (arranged m.1 (kinds st.top st.below))) h ∙ tracks m.1 m.0 st)
+moved_tracks : (i b : ℕ) (r : Ready) (cs : List Container) (st : State) (mv : Moved) → cs ≡ kinds st.top st.below → r.values ≡ st.values → Tracks (then mv (λ m. Ok (arrived cs r m))) (carried mv st)
+moved_tracks i b r cs st (Ok m) e h = ap (λ c. made m.mode (counted m.act r.values) (arranged m.act c)) e ∙ (ap (λ n. made m.mode (counted m.act n) (arranged m.act (kinds st.top st.below))) h ∙ tracks m.act m.mode st)
 moved_tracks i b r cs st (Err f) e h = refl
 
 ready_tracks : (i b : ℕ) (st : State) (q : Result Ready Fault)
-    → Tracks (then q (λ r. then (moved r.mode (surroundings (kinds st.top st.below) r.values) i b) (λ m. Ok (arrived (kinds st.top st.below) r m)))) (then q (λ r. stepped i (prepared r st) b))
+    → Tracks (then q (λ r. then (moved r.mode (surroundings i (kinds st.top st.below) r.values) b) (λ m. Ok (arrived (kinds st.top st.below) r m)))) (then q (λ r. stepped i (prepared r st) b))
 ready_tracks i b st (Ok r) =
     let e = kinds_number r.number st.top st.below in
-    subst (λ c. Tracks (then (moved r.mode (surroundings c r.values) i b) (λ m. Ok (arrived (kinds st.top st.below) r m))) (stepped i (prepared r st) b)) (sym e)
-    (moved_tracks i b r (kinds st.top st.below) (prepared r st) (moved r.mode (surroundings (kinds (with_number r.number st.top) st.below) r.values) i b) e refl)
+    subst (λ c. Tracks (then (moved r.mode (surroundings i c r.values) b) (λ m. Ok (arrived (kinds st.top st.below) r m))) (stepped i (prepared r st) b)) (sym e)
+    (moved_tracks i b r (kinds st.top st.below) (prepared r st) (moved r.mode (surroundings i (kinds (with_number r.number st.top) st.below) r.values) b) e refl)
 ready_tracks i b st (Err f) = refl
 
 -- a step of the scanner is one of the machine that builds
@@ -147,23 +146,23 @@ settled-prepared (mode.Text r x) n cs f bs = refl
 readied-prepared : (b : ℕ) (st : State) → Prepared st (readied b st.mode st.values)
 readied-prepared b st = by_cond (Prepared st) (figure b) _ _ (λ _. refl) (λ _. settled-prepared st.mode st.values st.chars st.top st.below)
 
-moved-built : (cs : List Container) (r : Ready) (st : State) (c : Control) (x : Step) (mv : Move) → prepared r st ≡ with_ended r.number st → then mv (λ m. Ok (arrived cs r m)) ≡ Ok (c, x)
+moved-built : (cs : List Container) (r : Ready) (st : State) (c : Control) (x : Step) (mv : Moved) → prepared r st ≡ with_ended r.number st → then mv (λ m. Ok (arrived cs r m)) ≡ Ok (c, x)
     → carried mv (prepared r st) ≡ Ok (performed x.act c.mode (with_ended x.number st))
 moved-built cs r st c x (Ok m) p e =
     let same : arrived cs r m ≡ (c, x) = cc in
-    let a : m.1 ≡ x.act = ap (λ (z : Control × Step). z.1.act) same in
-    let k : m.0 ≡ c.mode = ap (λ (z : Control × Step). z.0.mode) same in
+    let a : m.act ≡ x.act = ap (λ (z : Control × Step). z.1.act) same in
+    let k : m.mode ≡ c.mode = ap (λ (z : Control × Step). z.0.mode) same in
     let n : r.number ≡ x.number = ap (λ (z : Control × Step). z.1.number) same in
-    ap Ok (ap (λ z. performed z m.0 (prepared r st)) a ∙ (ap (λ z. performed x.act z (prepared r st)) k ∙ ap (performed x.act c.mode) (p ∙ ap (λ z. with_ended z st) n)))
+    ap Ok (ap (λ z. performed z m.mode (prepared r st)) a ∙ (ap (λ z. performed x.act z (prepared r st)) k ∙ ap (performed x.act c.mode) (p ∙ ap (λ z. with_ended z st) n)))
 moved-built cs r st c x (Err f) p e = no e
 
 ready_built : (i b : ℕ) (st : State) (c : Control) (x : Step) (q : Result Ready Fault) → Prepared st q
-    → then q (λ r. then (moved r.mode (surroundings (kinds st.top st.below) r.values) i b) (λ m. Ok (arrived (kinds st.top st.below) r m))) ≡ Ok (c, x)
+    → then q (λ r. then (moved r.mode (surroundings i (kinds st.top st.below) r.values) b) (λ m. Ok (arrived (kinds st.top st.below) r m))) ≡ Ok (c, x)
     → then q (λ r. stepped i (prepared r st) b) ≡ Ok (performed x.act c.mode (with_ended x.number st))
 ready_built i b st c x (Ok r) p e =
     let k = kinds_number r.number st.top st.below in
-    subst (λ cs. carried (moved r.mode (surroundings cs r.values) i b) (prepared r st) ≡ Ok (performed x.act c.mode (with_ended x.number st))) k
-    (moved-built (kinds st.top st.below) r st c x (moved r.mode (surroundings (kinds st.top st.below) r.values) i b) p e)
+    subst (λ cs. carried (moved r.mode (surroundings i cs r.values) b) (prepared r st) ≡ Ok (performed x.act c.mode (with_ended x.number st))) k
+    (moved-built (kinds st.top st.below) r st c x (moved r.mode (surroundings i (kinds st.top st.below) r.values) b) p e)
 ready_built i b st c x (Err f) p e = no e
 
 -- what a step of the scanner builds

@@ -8,10 +8,12 @@ use Rattle.json_scanner.specs.declared.modes.Mode.{Mode}
 use Rattle.json_scanner.specs.declared.modes.Mode.TheVariants as mode
 use Rattle.json_scanner.specs.declared.modes.Act.{Act}
 use Rattle.json_scanner.specs.declared.modes.Act.TheVariants as act
+use Rattle.json_scanner.specs.declared.modes.Container.{Container}
+use Rattle.json_scanner.specs.declared.modes.Container.TheVariants as container
 use Rattle.json_scanner.specs.declared.modes.Fault.{Fault}
 use Rattle.json_scanner.specs.declared.modes.Fault.TheVariants as fault
 use Rattle.json_scanner.specs.Grammar.{Tree, Trees, nil, snoc, Members, none, with, over, overs, over_members, size, sizes, member_sizes, white, Name, Value, Elements, Entries, Text}
-use Rattle.json_scanner.specs.Bytes.{Move, moved, opening, beginning, then}
+use Rattle.json_scanner.specs.Bytes.{Moved, moved, opening, beginning, then}
 use Rattle.json_scanner.specs.Machine.{State, Frame, bare, sole, items, fields, field, kinds, put, surroundings, performed, carried, step, run, start}
 use Rattle.json_scanner.specs.Faults.{starts, place_of}
 use Rattle.json_scanner.proofs.Cases.{below, reached, by_cond, is_true, is_false, never, or_false, no_left, no_right}
@@ -63,27 +65,24 @@ stay_after f bs n i b e = step-moved i b mode.After n [] f bs _ refl (is_true (w
 performed-any : (m k l : Mode) (n : ℕ) (cs : List ℕ) (f : Frame) (bs : List Frame) (x : Act) → performed x l (made_of m n cs f bs) ≡ performed x l (made_of k n cs f bs)
 performed-any m k l n cs f bs act.Stay = refl
 performed-any m k l n cs f bs act.Begin = refl
-performed-any m k l n cs f bs act.OpenList = refl
-performed-any m k l n cs f bs act.OpenObject = refl
+performed-any m k l n cs f bs (act.Open c) = refl
 performed-any m k l n cs f bs act.Close = refl
-performed-any m k l n cs f bs (act.Byte b) = refl
-performed-any m k l n cs f bs (act.Char c) = refl
+performed-any m k l n cs f bs (act.Add p) = refl
 performed-any m k l n cs f bs act.Key = refl
 performed-any m k l n cs f bs act.Text = refl
 performed-any m k l n cs f bs act.Null = refl
-performed-any m k l n cs f bs act.True = refl
-performed-any m k l n cs f bs act.False = refl
+performed-any m k l n cs f bs (act.Bool b) = refl
 
-carried-any : (m k : Mode) (n : ℕ) (cs : List ℕ) (f : Frame) (bs : List Frame) (mv : Move) → carried mv (made_of m n cs f bs) ≡ carried mv (made_of k n cs f bs)
-carried-any m k n cs f bs (Ok x) = ap Ok (performed-any m k x.0 n cs f bs x.1)
+carried-any : (m k : Mode) (n : ℕ) (cs : List ℕ) (f : Frame) (bs : List Frame) (mv : Moved) → carried mv (made_of m n cs f bs) ≡ carried mv (made_of k n cs f bs)
+carried-any m k n cs f bs (Ok x) = ap Ok (performed-any m k x.mode n cs f bs x.act)
 carried-any m k n cs f bs (Err g) = refl
 
 pub first_step : (f : Frame) (bs : List Frame) (n i b : ℕ) → starts b ≡ true → step i (first_in f bs n) b ≡ step i (want (items nil) (f ∷ bs) n) b
 first_step f bs n i b e =
     let w : white b ≡ false = grind (arith, nat_tests) in
     let c : eqb b 93 ≡ false = grind (arith, nat_tests) in
-    let same : moved mode.First (surroundings (kinds (items nil) (f ∷ bs)) n) i b ≡ moved mode.Want (surroundings (kinds (items nil) (f ∷ bs)) n) i b = is_false (eqb b 93) _ _ c ∙ (is_false (white b) _ _ w ∙ sym (is_false (white b) _ _ w)) in
-    step-moved i b mode.First n [] (items nil) (f ∷ bs) _ refl same ∙ (carried-any mode.First mode.Want n [] (items nil) (f ∷ bs) (moved mode.Want (surroundings (kinds (items nil) (f ∷ bs)) n) i b) ∙ sym (unsettled i b mode.Want n [] (items nil) (f ∷ bs) refl))
+    let same : moved mode.First (surroundings i (kinds (items nil) (f ∷ bs)) n) b ≡ moved mode.Want (surroundings i (kinds (items nil) (f ∷ bs)) n) b = is_false (eqb b 93) _ _ c ∙ (is_false (white b) _ _ w ∙ sym (is_false (white b) _ _ w)) in
+    step-moved i b mode.First n [] (items nil) (f ∷ bs) _ refl same ∙ (carried-any mode.First mode.Want n [] (items nil) (f ∷ bs) (moved mode.Want (surroundings i (kinds (items nil) (f ∷ bs)) n) b) ∙ sym (unsettled i b mode.Want n [] (items nil) (f ∷ bs) refl))
 
 -- the first byte of a value
 abbrev pub Begun : List ℕ → Type 0
@@ -153,21 +152,21 @@ module _ (N : ℕ) (P : Result Tree Fault → Type 0) where
   pub bad_for : (F G : Type 0) (rest more : List ℕ) → Bad F rest → (F → G) → length rest ≤ length more → Bad G more
   bad_for F G rest more bad imp le out g so lt = bad (λ x. out (imp x)) g so (omega arith)
 
-  pub opening-run : (f : Frame) (bs : List Frame) (n i b : ℕ) (r rest : List ℕ) (F : Type 0) (k : Mode) (x : Act) → length rest ≤ length r
-      → step i (want f bs n) b ≡ carried (opening (surroundings (kinds f bs) n) i k x) (want f bs n) → (F → leb 200 (length bs) ≡ false) → (F → n < 4096) → Bad F rest
-      → (leb 200 (length bs) ≡ false → n < 4096 → Goes N P (performed x k (want f bs n)) (i + 1) r) → Goes N P (want f bs n) i (b ∷ r)
-  opening-run f bs n i b r rest F k x le is shallow few bad on eq =
-      let Q : Move → Type 0 = λ mv. P (then (carried mv (want f bs n)) (λ y. run y (i + 1) r)) in
+  pub opening-run : (f : Frame) (bs : List Frame) (n i b : ℕ) (r rest : List ℕ) (F : Type 0) (k : Mode) (c : Container) → length rest ≤ length r
+      → step i (want f bs n) b ≡ carried (opening (surroundings i (kinds f bs) n) k c) (want f bs n) → (F → leb 200 (length bs) ≡ false) → (F → n < 4096) → Bad F rest
+      → (leb 200 (length bs) ≡ false → n < 4096 → Goes N P (performed (act.Open c) k (want f bs n)) (i + 1) r) → Goes N P (want f bs n) i (b ∷ r)
+  opening-run f bs n i b r rest F k c le is shallow few bad on eq =
+      let Q : Moved → Type 0 = λ mv. P (then (carried mv (want f bs n)) (λ y. run y (i + 1) r)) in
       subst (λ z. P (then z (λ y. run y (i + 1) r))) (sym is)
       (by_cond Q (leb 200 (length (kinds f bs))) _ _ (λ h. bad (λ fit. never (sym (shallow fit) ∙ (ap (leb 200) (sym (kinds-length f bs)) ∙ h))) (fault.Nested i) tt (omega arith))
       (λ d. by_cond Q (leb 4096 n) _ _ (λ h. bad (λ fit. let lo = reached 4096 n h in let hi = few fit in omega arith) (fault.Crowded i) tt (omega arith))
       (λ h. on (ap (leb 200) (sym (kinds-length f bs)) ∙ d) (below 4096 n h) (omega arith))))
 
   beginning-run : (f : Frame) (bs : List Frame) (n i b : ℕ) (r rest : List ℕ) (F : Type 0) (k : Mode) → length rest ≤ length r
-      → step i (want f bs n) b ≡ carried (beginning (surroundings (kinds f bs) n) i k) (want f bs n) → (F → n < 4096) → Bad F rest
+      → step i (want f bs n) b ≡ carried (beginning (surroundings i (kinds f bs) n) k) (want f bs n) → (F → n < 4096) → Bad F rest
       → (n < 4096 → Goes N P (made_of k (n + 1) [] f bs) (i + 1) r) → Goes N P (want f bs n) i (b ∷ r)
   beginning-run f bs n i b r rest F k le is few bad on eq =
-      let Q : Move → Type 0 = λ mv. P (then (carried mv (want f bs n)) (λ y. run y (i + 1) r)) in
+      let Q : Moved → Type 0 = λ mv. P (then (carried mv (want f bs n)) (λ y. run y (i + 1) r)) in
       subst (λ z. P (then z (λ y. run y (i + 1) r))) (sym is)
       (by_cond Q (leb 4096 n) _ _ (λ h. bad (λ fit. let lo = reached 4096 n h in let hi = few fit in omega arith) (fault.Crowded i) tt (omega arith))
       (λ h. on (below 4096 n h) (omega arith)))
@@ -214,23 +213,23 @@ module _ (N : ℕ) (P : Result Tree Fault → Type 0) where
         (λ lt. subst (Goes N P (quoted []) (i + 1)) (sym (append_assoc s (34 ∷ []) rest))
         (chars_run N P role.Value (n + 1) f bs (34 ∷ rest) ch (λ j. go N P (quoted cs) (after (put f (Tree.text cs)) bs (n + 1)) j 34 rest refl (k (j + 1) (n + 1) refl (omega arith) refl)) (i + 1)))
     value-run (Value.empty_list {a = a} ba) f bs n rest sp bad k i =
-        opening-run f bs n i 91 ((a ++ 93 ∷ []) ++ rest) rest _ mode.First act.OpenList (behind_le (a ++ 93 ∷ []) rest) refl (λ fit. no_left (leb 200 (length bs)) false fit.0) (λ fit. let h = fit.1 in omega arith) bad
+        opening-run f bs n i 91 ((a ++ 93 ∷ []) ++ rest) rest _ mode.First container.List (behind_le (a ++ 93 ∷ []) rest) refl (λ fit. no_left (leb 200 (length bs)) false fit.0) (λ fit. let h = fit.1 in omega arith) bad
         (λ shallow lt. subst (Goes N P (first_in f bs (n + 1)) (i + 1)) (sym (append_assoc a (93 ∷ []) rest))
         (blanks N P (first_in f bs (n + 1)) (93 ∷ rest) (stay_first f bs (n + 1)) ba
         (λ j. go N P (first_in f bs (n + 1)) (after (put f (Tree.list nil)) bs (n + 1)) j 93 rest refl (k (j + 1) (n + 1) (omega arith) (omega arith) (or_false (leb 200 (length bs)) false shallow refl))) (i + 1)))
     value-run (Value.full_list {vs = vs} {s = s} el) f bs n rest sp bad k i =
-        opening-run f bs n i 91 ((s ++ 93 ∷ []) ++ rest) rest _ mode.First act.OpenList (behind_le (s ++ 93 ∷ []) rest) refl (λ fit. no_left (leb 200 (length bs)) (overs (suc (length bs)) vs) fit.0) (λ fit. let h = fit.1 in omega arith) bad
+        opening-run f bs n i 91 ((s ++ 93 ∷ []) ++ rest) rest _ mode.First container.List (behind_le (s ++ 93 ∷ []) rest) refl (λ fit. no_left (leb 200 (length bs)) (overs (suc (length bs)) vs) fit.0) (λ fit. let h = fit.1 in omega arith) bad
         (λ shallow lt. subst (Goes N P (first_in f bs (n + 1)) (i + 1)) (sym (append_assoc s (93 ∷ []) rest))
         (elements-run el f bs (n + 1) (93 ∷ rest) refl
         (bad_for (Fit (length bs) n (Tree.list vs)) (FitList (suc (length bs)) (n + 1) vs) rest (93 ∷ rest) bad (λ fit. (no_right (leb 200 (length bs)) (overs (suc (length bs)) vs) fit.0, let h = fit.1 in omega arith)) (omega arith))
         (λ j m em le ov. go N P (after (items vs) (f ∷ bs) m) (after (put f (Tree.list vs)) bs m) j 93 rest refl (k (j + 1) m (omega arith) le (or_false (leb 200 (length bs)) (overs (suc (length bs)) vs) shallow ov))) (i + 1)))
     value-run (Value.empty_object {a = a} ba) f bs n rest sp bad k i =
-        opening-run f bs n i 123 ((a ++ 125 ∷ []) ++ rest) rest _ mode.FirstKey act.OpenObject (behind_le (a ++ 125 ∷ []) rest) refl (λ fit. no_left (leb 200 (length bs)) false fit.0) (λ fit. let h = fit.1 in omega arith) bad
+        opening-run f bs n i 123 ((a ++ 125 ∷ []) ++ rest) rest _ mode.FirstKey container.Object (behind_le (a ++ 125 ∷ []) rest) refl (λ fit. no_left (leb 200 (length bs)) false fit.0) (λ fit. let h = fit.1 in omega arith) bad
         (λ shallow lt. subst (Goes N P (first_key f bs (n + 1)) (i + 1)) (sym (append_assoc a (125 ∷ []) rest))
         (blanks N P (first_key f bs (n + 1)) (125 ∷ rest) (stay_first_key f bs (n + 1)) ba
         (λ j. go N P (first_key f bs (n + 1)) (after (put f (Tree.object none)) bs (n + 1)) j 125 rest refl (k (j + 1) (n + 1) (omega arith) (omega arith) (or_false (leb 200 (length bs)) false shallow refl))) (i + 1)))
     value-run (Value.full_object {ms = ms} {s = s} en) f bs n rest sp bad k i =
-        opening-run f bs n i 123 ((s ++ 125 ∷ []) ++ rest) rest _ mode.FirstKey act.OpenObject (behind_le (s ++ 125 ∷ []) rest) refl (λ fit. no_left (leb 200 (length bs)) (over_members (suc (length bs)) ms) fit.0) (λ fit. let h = fit.1 in omega arith) bad
+        opening-run f bs n i 123 ((s ++ 125 ∷ []) ++ rest) rest _ mode.FirstKey container.Object (behind_le (s ++ 125 ∷ []) rest) refl (λ fit. no_left (leb 200 (length bs)) (over_members (suc (length bs)) ms) fit.0) (λ fit. let h = fit.1 in omega arith) bad
         (λ shallow lt. subst (Goes N P (first_key f bs (n + 1)) (i + 1)) (sym (append_assoc s (125 ∷ []) rest))
         (entries_run en f bs (n + 1) (125 ∷ rest) refl
         (bad_for (Fit (length bs) n (Tree.object ms)) (FitObject (suc (length bs)) (n + 1) ms) rest (125 ∷ rest) bad (λ fit. (no_right (leb 200 (length bs)) (over_members (suc (length bs)) ms) fit.0, let h = fit.1 in omega arith)) (omega arith))

@@ -5,17 +5,17 @@ use Rattle.std.proofs.lemmas.List.{take-take, take-append-drop}
 use Rattle.std.specs.Char.{is_ascii_digit}
 use Rattle.json_scanner.specs.declared.modes.Figures.{Figures}
 use Rattle.json_scanner.specs.declared.modes.Figures.TheVariants as figures
-use Rattle.json_scanner.specs.declared.modes.Verdict.{Verdict}
-use Rattle.json_scanner.specs.declared.modes.Verdict.TheVariants as verdict
+use Rattle.json_scanner.specs.declared.modes.NumberError.{NumberError}
+use Rattle.json_scanner.specs.declared.modes.NumberError.TheVariants as number_error
 use Rattle.json_scanner.specs.declared.modes.Mode.{Mode}
 use Rattle.json_scanner.specs.declared.modes.Mode.TheVariants as mode
-use Rattle.json_scanner.specs.declared.modes.Act.{Act}
-use Rattle.json_scanner.specs.declared.modes.Act.TheVariants as act
+use Rattle.json_scanner.specs.declared.modes.Container.{Container}
+use Rattle.json_scanner.specs.declared.modes.Container.TheVariants as container
 use Rattle.json_scanner.specs.declared.modes.Fault.{Fault}
 use Rattle.json_scanner.specs.declared.modes.Fault.TheVariants as fault
 use Rattle.json_scanner.specs.declared.modes.Ready.{Ready}
 use Rattle.json_scanner.specs.Grammar.{Tree, nil, none, white, Blank, Numeral, Whole, Chars, Value, Viable}
-use Rattle.json_scanner.specs.Bytes.{Move, opening, beginning, judged, broken_off, figured, figure, settled, readied, still, then}
+use Rattle.json_scanner.specs.Bytes.{Moved, opening, beginning, judged, broken_off, figured, figure, settled, readied, still, then}
 use Rattle.json_scanner.specs.Machine.{State, Frame, bare, items, fields, field, kinds, surroundings, carried, stepped, step, prepared, ended, run, start}
 use Rattle.json_scanner.specs.Faults.{place_of, number_of, CountsFirst, Inner, Place, top, within, values_before, starts, Unfit, Breaks, Nests, Misfits, Crowds, Faulty}
 use Rattle.json_scanner.proofs.Cases.{reaches, by_cond, is_true, never, or_false}
@@ -54,21 +54,21 @@ module _ (N : ℕ) (P : Result Tree Fault → Type 0) (rest : List ℕ) (h : Beg
 
   inner_run : {g : Frame} {w : List ℕ} (f : Frame) (bs : List Frame) (n : ℕ) → Inner g w → Early → ((j m : ℕ) → m ≡ n + suc 0 + (values_before g (f ∷ bs) - suc (values_before f bs)) → Goes N P (want g (f ∷ bs) m) j rest) → (i : ℕ) → Goes N P (want f bs n) i (w ++ rest)
   inner_run f bs n (Inner.first {a = a} ba) all k i =
-      opening-run N P f bs n i 91 (a ++ rest) (a ++ rest) ⊥ mode.First act.OpenList (omega arith) refl (λ z. absurd z) (λ z. absurd z) (early ⊥ (a ++ rest) all (behind_le a rest))
+      opening-run N P f bs n i 91 (a ++ rest) (a ++ rest) ⊥ mode.First container.List (omega arith) refl (λ z. absurd z) (λ z. absurd z) (early ⊥ (a ++ rest) all (behind_le a rest))
       (λ _ _. blanks N P (first_in f bs (n + 1)) rest (stay_first f bs (n + 1)) ba (λ j. first_goes f bs (n + 1) j (k j (n + 1) (omega arith))) (i + 1))
   inner_run f bs n (Inner.next {ts = ts} {e = e} {a = a} el ba) all k i =
       subst (Goes N P (want f bs n) i) (ap (λ l. 91 ∷ l) (join_next e (44 ∷ []) a rest))
-      (opening-run N P f bs n i 91 (e ++ (44 ∷ (a ++ rest))) rest ⊥ mode.First act.OpenList (omega (arith, behind_le a rest, behind_le e (44 ∷ (a ++ rest)))) refl (λ z. absurd z) (λ z. absurd z) (early ⊥ rest all (omega arith))
+      (opening-run N P f bs n i 91 (e ++ (44 ∷ (a ++ rest))) rest ⊥ mode.First container.List (omega (arith, behind_le a rest, behind_le e (44 ∷ (a ++ rest)))) refl (λ z. absurd z) (λ z. absurd z) (early ⊥ rest all (omega arith))
       (λ _ _. elements-run N P el f bs (n + 1) (44 ∷ (a ++ rest)) refl (early _ (44 ∷ (a ++ rest)) all (omega (arith, behind_le a rest)))
       (λ j m em _ _. go N P (after (items ts) (f ∷ bs) m) (want (items ts) (f ∷ bs) m) j 44 (a ++ rest) refl (blanks N P (want (items ts) (f ∷ bs) m) rest (stay_want (items ts) (f ∷ bs) m) ba (λ j. k j m (omega arith)) (j + 1))) (i + 1)))
   inner_run f bs n (Inner.first_field {k = key} {n = m} {a = a} na ba) all k i =
       subst (Goes N P (want f bs n) i) (ap (λ l. 123 ∷ l) (join2 m a rest))
-      (opening-run N P f bs n i 123 (m ++ (a ++ rest)) rest ⊥ mode.FirstKey act.OpenObject (omega (arith, behind_le a rest, behind_le m (a ++ rest))) refl (λ z. absurd z) (λ z. absurd z) (early ⊥ rest all (omega arith))
+      (opening-run N P f bs n i 123 (m ++ (a ++ rest)) rest ⊥ mode.FirstKey container.Object (omega (arith, behind_le a rest, behind_le m (a ++ rest))) refl (λ z. absurd z) (λ z. absurd z) (early ⊥ rest all (omega arith))
       (λ _ _. name_run N P (first_key f bs (n + 1)) none f bs (n + 1) (a ++ rest) (stay_first_key f bs (n + 1)) (λ i. refl) na
       (blanks N P (want (field none key) (f ∷ bs) (n + 1)) rest (stay_want (field none key) (f ∷ bs) (n + 1)) ba (λ j. k j (n + 1) (omega arith))) (i + 1)))
   inner_run f bs n (Inner.next_field {ms = ms} {k = key} {e = e} {n = m} {a = a} en na ba) all k i =
       subst (Goes N P (want f bs n) i) (ap (λ l. 123 ∷ l) (join_field e (44 ∷ []) m a rest))
-      (opening-run N P f bs n i 123 (e ++ (44 ∷ (m ++ (a ++ rest)))) rest ⊥ mode.FirstKey act.OpenObject (omega (arith, behind_le a rest, behind_le m (a ++ rest), behind_le e (44 ∷ (m ++ (a ++ rest))))) refl (λ z. absurd z) (λ z. absurd z) (early ⊥ rest all (omega arith))
+      (opening-run N P f bs n i 123 (e ++ (44 ∷ (m ++ (a ++ rest)))) rest ⊥ mode.FirstKey container.Object (omega (arith, behind_le a rest, behind_le m (a ++ rest), behind_le e (44 ∷ (m ++ (a ++ rest))))) refl (λ z. absurd z) (λ z. absurd z) (early ⊥ rest all (omega arith))
       (λ _ _. entries_run N P en f bs (n + 1) (44 ∷ (m ++ (a ++ rest))) refl (early _ (44 ∷ (m ++ (a ++ rest))) all (omega (arith, behind_le a rest, behind_le m (a ++ rest))))
       (λ j q eq _ _. go N P (after (fields ms) (f ∷ bs) q) (next_key ms f bs q) j 44 (m ++ (a ++ rest)) refl
       (name_run N P (next_key ms f bs q) ms f bs q (a ++ rest) (stay_next_key ms f bs q) (λ i. refl) na
@@ -95,10 +95,10 @@ module _ (P : Result Tree Fault → Type 0) (from : ℕ) (f : Frame) (bs : List 
   broken : (i : ℕ) → P (Err (broken_off n from i))
   broken i = subst (λ x. P (Err x)) (sym (is_true (leb 4096 n) _ _ many)) crowded
 
-  judged_crowded : (i : ℕ) (s : List ℕ) (v : Verdict) (g : Figures) → ((x : Figures) → P (run (numbering x from f bs n) (i + 1) s)) → P (then (carried (judged v n from i) (numbering g from f bs n)) (λ y. run y (i + 1) s))
-  judged_crowded i s (verdict.Goes x) g ih = ih x
-  judged_crowded i s verdict.Unfit g ih = misfit
-  judged_crowded i s verdict.Breaks g ih = broken i
+  judged_crowded : (i : ℕ) (s : List ℕ) (v : Result Figures NumberError) (g : Figures) → ((x : Figures) → P (run (numbering x from f bs n) (i + 1) s)) → P (then (carried (judged v n from i) (numbering g from f bs n)) (λ y. run y (i + 1) s))
+  judged_crowded i s (Ok x) g ih = ih x
+  judged_crowded i s (Err number_error.Unfit) g ih = misfit
+  judged_crowded i s (Err number_error.Broken) g ih = broken i
 
   -- the end of an integer, or none
   settled_crowded : (g : Figures) (k : Ready → Result Tree Fault) → P (k (still (mode.Number g from) n)) → P (then (settled (mode.Number g from) n) k)
@@ -181,13 +181,13 @@ number_first s p h =
 -- a value that begins behind 4,096 others
 crowded_begins : (P : Result Tree Fault → Type 0) (f : Frame) (bs : List Frame) (n j b : ℕ) (r : List ℕ) → starts b ≡ true → leb 4096 n ≡ true → P (Err (fault.Nested j)) → P (Err (fault.Number j)) → P (Err (fault.Crowded j)) → P (run (want f bs n) j (b ∷ r))
 crowded_begins P f bs n j b r st many nested misfit crowded =
-    let Q : Move → Type 0 = λ mv. P (then (carried mv (want f bs n)) (λ y. run y (j + 1) r)) in
-    let opens : (m : Mode) (x : Act) → Q (opening (surroundings (kinds f bs) n) j m x) = λ m x. by_cond Q (leb 200 (length (kinds f bs))) _ _ (λ _. nested) (λ _. by_cond Q (leb 4096 n) _ _ (λ _. crowded) (λ e. never (sym e ∙ many))) in
-    let scalar : (m : Mode) → Q (beginning (surroundings (kinds f bs) n) j m) = λ m. by_cond Q (leb 4096 n) _ _ (λ _. crowded) (λ e. never (sym e ∙ many)) in
+    let Q : Moved → Type 0 = λ mv. P (then (carried mv (want f bs n)) (λ y. run y (j + 1) r)) in
+    let opens : (m : Mode) (c : Container) → Q (opening (surroundings j (kinds f bs) n) m c) = λ m c. by_cond Q (leb 200 (length (kinds f bs))) _ _ (λ _. nested) (λ _. by_cond Q (leb 4096 n) _ _ (λ _. crowded) (λ e. never (sym e ∙ many))) in
+    let scalar : (m : Mode) → Q (beginning (surroundings j (kinds f bs) n) m) = λ m. by_cond Q (leb 4096 n) _ _ (λ _. crowded) (λ e. never (sym e ∙ many)) in
     subst (λ z. P (then z (λ y. run y (j + 1) r))) (sym (unsettled j b mode.Want n [] f bs refl))
     (by_cond Q (white b) _ _ (λ w. let z : starts b ≡ false = grind (arith, nat_tests) in never (sym z ∙ st))
-    (λ _. by_cond Q (eqb b 91) _ _ (λ _. opens mode.First act.OpenList)
-    (λ x91. by_cond Q (eqb b 123) _ _ (λ _. opens mode.FirstKey act.OpenObject)
+    (λ _. by_cond Q (eqb b 91) _ _ (λ _. opens mode.First container.List)
+    (λ x91. by_cond Q (eqb b 123) _ _ (λ _. opens mode.FirstKey container.Object)
     (λ x123. by_cond Q (eqb b 45) _ _ (λ _. number_crowded P j f bs n many misfit crowded r figures.Minus (j + 1))
     (λ x45. by_cond Q (is_ascii_digit b) _ _ (λ _. number_crowded P j f bs n many misfit crowded r (figures.Whole false (b - 48)) (j + 1))
     (λ xd. by_cond Q (eqb b 34) _ _ (λ _. scalar _)

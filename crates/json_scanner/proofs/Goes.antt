@@ -1,5 +1,6 @@
 -- Runs from a state, a byte at a time.
-use Rattle.std.proofs.Common.{◌≡◌, ℕ, ◌+◌, ◌<◌, true, false, cond, ◌&&◌, eqb, leb, List, [], ◌∷◌, ◌++◌, length, Some, Ok, Err, Result, sym, refl, ap, ◌∙◌, subst, append_assoc, arith}
+use Rattle.std.proofs.Common.{◌≡◌, ℕ, ◌+◌, ◌<◌, true, false, cond, ◌&&◌, eqb, leb, List, [], ◌∷◌, ◌++◌, length, Some, None, Ok, Err, Option, Result, sym, refl, ap, ◌∙◌, subst, append_assoc, arith}
+use lib.Utf8.{scalar}
 use Rattle.std.proofs.lemmas.Bool.Decides.{nat_tests}
 use Rattle.json_scanner.specs.declared.modes.Role.{Role}
 use Rattle.json_scanner.specs.declared.modes.Tail.TheVariants as tails
@@ -12,10 +13,10 @@ use Rattle.json_scanner.specs.declared.modes.Mode.{Mode}
 use Rattle.json_scanner.specs.declared.modes.Mode.TheVariants as mode
 use Rattle.json_scanner.specs.declared.modes.Fault.{Fault}
 use Rattle.json_scanner.specs.Grammar.{Tree, white, plain, lead2, lead3, lead4, tail, second, hex, hexed, unit, pair, high, low, surrogate, Blank, Raw, CodeUnit, Character, Chars}
-use Rattle.json_scanner.specs.Bytes.{Move, moved, noted, act_of, spelled, led, escaped_by, united, closing, figure, settled, still, then}
+use Rattle.json_scanner.specs.Bytes.{Moved, moved, goes, noted, act_of, spelled, spells, led, escaped_by, united, closing, figure, settled, still, then}
 use Rattle.json_scanner.specs.Machine.{State, Frame, kinds, surroundings, performed, carried, stepped, step, prepared, run}
 use Rattle.json_scanner.proofs.Cases.{is_true, is_false, cond_same}
-use Rattle.json_scanner.proofs.Strings.{added, hex_small}
+use Rattle.json_scanner.proofs.Strings.{added, hex_small, unit_small}
 use Rattle.json_scanner.proofs.Shape.{made_of}
 
 -- no number goes on in s
@@ -34,29 +35,28 @@ blank_stops rest (Blank.more {w = w} b bl e) sp = subst Stops (sym (append_assoc
 pub unsettled : (i b : ℕ) (m : Mode) (n : ℕ) (cs : List ℕ) (f : Frame) (bs : List Frame) → settled m n ≡ Ok (still m n) → step i (made_of m n cs f bs) b ≡ stepped i (made_of m n cs f bs) b
 unsettled i b m n cs f bs h = ap (λ r. then r (λ q. stepped i (prepared q (made_of m n cs f bs)) b)) (ap (λ x. cond (figure b) (Ok (still m n)) x) h ∙ cond_same (figure b) (Ok (still m n)))
 
-pub step-moved : (i b : ℕ) (m : Mode) (n : ℕ) (cs : List ℕ) (f : Frame) (bs : List Frame) (mv : Move) → settled m n ≡ Ok (still m n) → moved m (surroundings (kinds f bs) n) i b ≡ mv → step i (made_of m n cs f bs) b ≡ carried mv (made_of m n cs f bs)
+pub step-moved : (i b : ℕ) (m : Mode) (n : ℕ) (cs : List ℕ) (f : Frame) (bs : List Frame) (mv : Moved) → settled m n ≡ Ok (still m n) → moved m (surroundings i (kinds f bs) n) b ≡ mv → step i (made_of m n cs f bs) b ≡ carried mv (made_of m n cs f bs)
 step-moved i b m n cs f bs mv h e = unsettled i b m n cs f bs h ∙ ap (λ x. carried x (made_of m n cs f bs)) e
 
-performed_piece : (r : Role) (x y : Inside) (n : ℕ) (cs : List ℕ) (f : Frame) (bs : List Frame) (p : Piece) → performed (act_of p) (mode.Text r y) (made_of (mode.Text r x) n cs f bs) ≡ made_of (mode.Text r y) n (added cs p) f bs
-performed_piece r x y n cs f bs piece.Nothing = refl
-performed_piece r x y n cs f bs (piece.Byte b) = refl
-performed_piece r x y n cs f bs (piece.Char c) = refl
+performed_piece : (r : Role) (x y : Inside) (n : ℕ) (cs : List ℕ) (f : Frame) (bs : List Frame) (p : Option Piece) → performed (act_of p) (mode.Text r y) (made_of (mode.Text r x) n cs f bs) ≡ made_of (mode.Text r y) n (added cs p) f bs
+performed_piece r x y n cs f bs None = refl
+performed_piece r x y n cs f bs (Some p) = refl
 
-text_step : (r : Role) (x y : Inside) (p : Piece) (i b n : ℕ) (cs : List ℕ) (f : Frame) (bs : List Frame) → closing x b ≡ false → spelled x b ≡ Some (y, p)
+text_step : (r : Role) (x y : Inside) (p : Option Piece) (i b n : ℕ) (cs : List ℕ) (f : Frame) (bs : List Frame) → closing x b ≡ false → spelled x b ≡ spells y p
     → step i (made_of (mode.Text r x) n cs f bs) b ≡ Ok (made_of (mode.Text r y) n (added cs p) f bs)
 text_step r x y p i b n cs f bs c e =
-    step-moved i b (mode.Text r x) n cs f bs (Ok (mode.Text r y, act_of p)) refl (is_false (closing x b) _ _ c ∙ ap (λ s. noted r s i) e) ∙ ap Ok (performed_piece r x y n cs f bs p)
+    step-moved i b (mode.Text r x) n cs f bs (goes (mode.Text r y) (act_of p)) refl (is_false (closing x b) _ _ c ∙ ap (λ s. noted r s i) e) ∙ ap Ok (performed_piece r x y n cs f bs p)
 
 -- ---- code units, by their digits
 
-alone_8 : (x y z w : ℕ) → z < 16 → w < 16 → y < 16 → surrogate (unit x y z w) ≡ false → (eqb x 13 && leb 8 y) ≡ false
-alone_8 x y z w hz hw hy e = grind (arith, nat_tests)
+alone-scalar : (u : ℕ) → u < 65536 → surrogate u ≡ false → scalar u ≡ true
+alone-scalar u lt e = grind (arith, nat_tests)
 
 alone_12 : (x y z w : ℕ) → z < 16 → w < 16 → y < 16 → surrogate (unit x y z w) ≡ false → (eqb x 13 && leb 12 y) ≡ false
 alone_12 x y z w hz hw hy e = grind (arith, nat_tests)
 
-high_8 : (x y z w : ℕ) → z < 16 → w < 16 → y < 16 → high (unit x y z w) ≡ true → (eqb x 13 && leb 8 y) ≡ true
-high_8 x y z w hz hw hy e = grind (arith, nat_tests)
+high-scalar : (u : ℕ) → high u ≡ true → scalar u ≡ false
+high-scalar u e = grind (arith, nat_tests)
 
 high_12 : (x y z w : ℕ) → z < 16 → w < 16 → y < 16 → high (unit x y z w) ≡ true → (eqb x 13 && leb 12 y) ≡ false
 high_12 x y z w hz hw hy e = grind (arith, nat_tests)
@@ -79,16 +79,16 @@ lead3_quote b e = grind (arith, nat_tests)
 lead4_quote : (b : ℕ) → lead4 b ≡ true → eqb b 34 ≡ false
 lead4_quote b e = grind (arith, nat_tests)
 
-led2 : (b : ℕ) → lead2 b ≡ true → led b ≡ Some (inside.Raw tails.One, piece.Byte b)
+led2 : (b : ℕ) → lead2 b ≡ true → led b ≡ spells (inside.Raw tails.One) (Some (piece.Byte b))
 led2 b e = let p : plain b ≡ false = grind (arith, nat_tests) in is_false (plain b) _ _ p ∙ is_true (lead2 b) _ _ e
 
-led3 : (b : ℕ) → lead3 b ≡ true → led b ≡ Some (inside.Raw (tails.SecondOfThree b), piece.Byte b)
+led3 : (b : ℕ) → lead3 b ≡ true → led b ≡ spells (inside.Raw (tails.SecondOfThree b)) (Some (piece.Byte b))
 led3 b e =
     let p : plain b ≡ false = grind (arith, nat_tests) in
     let q : lead2 b ≡ false = grind (arith, nat_tests) in
     is_false (plain b) _ _ p ∙ (is_false (lead2 b) _ _ q ∙ is_true (lead3 b) _ _ e)
 
-led4 : (b : ℕ) → lead4 b ≡ true → led b ≡ Some (inside.Raw (tails.SecondOfFour b), piece.Byte b)
+led4 : (b : ℕ) → lead4 b ≡ true → led b ≡ spells (inside.Raw (tails.SecondOfFour b)) (Some (piece.Byte b))
 led4 b e =
     let p : plain b ≡ false = grind (arith, nat_tests) in
     let q : lead2 b ≡ false = grind (arith, nat_tests) in
@@ -116,65 +116,65 @@ module _ (N : ℕ) (P : Result Tree Fault → Type 0) where
     abbrev pub texting : Inside → List ℕ → State
     texting x cs = made_of (mode.Text r x) n cs f bs
 
-    text_go : (x y : Inside) (p : Piece) (cs : List ℕ) (b : ℕ) (rest : List ℕ) → closing x b ≡ false → spelled x b ≡ Some (y, p) → ((j : ℕ) → Goes (texting y (added cs p)) j rest) → (j : ℕ) → Goes (texting x cs) j (b ∷ rest)
+    text_go : (x y : Inside) (p : Option Piece) (cs : List ℕ) (b : ℕ) (rest : List ℕ) → closing x b ≡ false → spelled x b ≡ spells y p → ((j : ℕ) → Goes (texting y (added cs p)) j rest) → (j : ℕ) → Goes (texting x cs) j (b ∷ rest)
     text_go x y p cs b rest c e k j = go (texting x cs) (texting y (added cs p)) j b rest (text_step r x y p j b n cs f bs c e) (k (j + 1))
 
     raw_run : {w : List ℕ} (cs rest : List ℕ) → Raw w → ((j : ℕ) → Goes (texting inside.Plain (cs ++ w)) j rest) → (j : ℕ) → Goes (texting inside.Plain cs) j (w ++ rest)
-    raw_run cs rest (Raw.one b e) k = text_go inside.Plain inside.Plain (piece.Byte b) cs b rest (plain_quote b e) (is_true (plain b) _ _ e) k
+    raw_run cs rest (Raw.one b e) k = text_go inside.Plain inside.Plain (Some (piece.Byte b)) cs b rest (plain_quote b e) (is_true (plain b) _ _ e) k
     raw_run cs rest (Raw.two a b e h) k =
-        text_go inside.Plain (inside.Raw tails.One) (piece.Byte a) cs a (b ∷ rest) (lead2_quote a e) (led2 a e)
-        (text_go (inside.Raw tails.One) inside.Plain (piece.Byte b) (cs ++ a ∷ []) b rest refl (is_true (tail b) _ _ h)
+        text_go inside.Plain (inside.Raw tails.One) (Some (piece.Byte a)) cs a (b ∷ rest) (lead2_quote a e) (led2 a e)
+        (text_go (inside.Raw tails.One) inside.Plain (Some (piece.Byte b)) (cs ++ a ∷ []) b rest refl (is_true (tail b) _ _ h)
         (λ j. subst (λ l. Goes (texting inside.Plain l) j rest) (sym (append_assoc cs (a ∷ []) (b ∷ []))) (k j)))
     raw_run cs rest (Raw.three a b c e s h) k =
-        text_go inside.Plain (inside.Raw (tails.SecondOfThree a)) (piece.Byte a) cs a (b ∷ c ∷ rest) (lead3_quote a e) (led3 a e)
-        (text_go (inside.Raw (tails.SecondOfThree a)) (inside.Raw tails.One) (piece.Byte b) (cs ++ a ∷ []) b (c ∷ rest) refl (is_true (second a b) _ _ s)
-        (text_go (inside.Raw tails.One) inside.Plain (piece.Byte c) ((cs ++ a ∷ []) ++ b ∷ []) c rest refl (is_true (tail c) _ _ h)
+        text_go inside.Plain (inside.Raw (tails.SecondOfThree a)) (Some (piece.Byte a)) cs a (b ∷ c ∷ rest) (lead3_quote a e) (led3 a e)
+        (text_go (inside.Raw (tails.SecondOfThree a)) (inside.Raw tails.One) (Some (piece.Byte b)) (cs ++ a ∷ []) b (c ∷ rest) refl (is_true (second a b) _ _ s)
+        (text_go (inside.Raw tails.One) inside.Plain (Some (piece.Byte c)) ((cs ++ a ∷ []) ++ b ∷ []) c rest refl (is_true (tail c) _ _ h)
         (λ j. subst (λ l. Goes (texting inside.Plain l) j rest) (joins3 cs (a ∷ []) (b ∷ []) (c ∷ [])) (k j))))
       where
         joins3 : (x y z w : List ℕ) → x ++ (y ++ (z ++ w)) ≡ ((x ++ y) ++ z) ++ w
         joins3 x y z w = simp append_assoc
     raw_run cs rest (Raw.four a b c d e s h g) k =
-        text_go inside.Plain (inside.Raw (tails.SecondOfFour a)) (piece.Byte a) cs a (b ∷ c ∷ d ∷ rest) (lead4_quote a e) (led4 a e)
-        (text_go (inside.Raw (tails.SecondOfFour a)) (inside.Raw tails.Two) (piece.Byte b) (cs ++ a ∷ []) b (c ∷ d ∷ rest) refl (is_true (second a b) _ _ s)
-        (text_go (inside.Raw tails.Two) (inside.Raw tails.One) (piece.Byte c) ((cs ++ a ∷ []) ++ b ∷ []) c (d ∷ rest) refl (is_true (tail c) _ _ h)
-        (text_go (inside.Raw tails.One) inside.Plain (piece.Byte d) (((cs ++ a ∷ []) ++ b ∷ []) ++ c ∷ []) d rest refl (is_true (tail d) _ _ g)
+        text_go inside.Plain (inside.Raw (tails.SecondOfFour a)) (Some (piece.Byte a)) cs a (b ∷ c ∷ d ∷ rest) (lead4_quote a e) (led4 a e)
+        (text_go (inside.Raw (tails.SecondOfFour a)) (inside.Raw tails.Two) (Some (piece.Byte b)) (cs ++ a ∷ []) b (c ∷ d ∷ rest) refl (is_true (second a b) _ _ s)
+        (text_go (inside.Raw tails.Two) (inside.Raw tails.One) (Some (piece.Byte c)) ((cs ++ a ∷ []) ++ b ∷ []) c (d ∷ rest) refl (is_true (tail c) _ _ h)
+        (text_go (inside.Raw tails.One) inside.Plain (Some (piece.Byte d)) (((cs ++ a ∷ []) ++ b ∷ []) ++ c ∷ []) d rest refl (is_true (tail d) _ _ g)
         (λ j. subst (λ l. Goes (texting inside.Plain l) j rest) (joins4 cs (a ∷ []) (b ∷ []) (c ∷ []) (d ∷ [])) (k j)))))
       where
         joins4 : (x y z w v : List ℕ) → x ++ (y ++ (z ++ (w ++ v))) ≡ (((x ++ y) ++ z) ++ w) ++ v
         joins4 x y z w v = simp append_assoc
 
-    -- a code unit that stands alone or is a high surrogate
-    unit-run : (cs : List ℕ) (a b c d : ℕ) (y : Inside) (p : Piece) (rest : List ℕ) → hex a ≡ true → hex b ≡ true → hex c ≡ true → hex d ≡ true → (eqb (hexed a) 13 && leb 12 (hexed b)) ≡ false
-        → united (hexes.Three (hexed a) (hexed b) (hexed c)) (hexed d) ≡ Some (y, p) → ((j : ℕ) → Goes (texting y (added cs p)) j rest) → (j : ℕ) → Goes (texting inside.Plain cs) j (92 ∷ 117 ∷ a ∷ b ∷ c ∷ d ∷ rest)
+    -- a code unit that is a character or a high surrogate
+    unit-run : (cs : List ℕ) (a b c d : ℕ) (y : Inside) (p : Option Piece) (rest : List ℕ) → hex a ≡ true → hex b ≡ true → hex c ≡ true → hex d ≡ true → (eqb (hexed a) 13 && leb 12 (hexed b)) ≡ false
+        → united (hexes.Three (hexed a) (hexed b) (hexed c)) (hexed d) ≡ spells y p → ((j : ℕ) → Goes (texting y (added cs p)) j rest) → (j : ℕ) → Goes (texting inside.Plain cs) j (92 ∷ 117 ∷ a ∷ b ∷ c ∷ d ∷ rest)
     unit-run cs a b c d y p rest ha hb hc hd f12 e k =
-        text_go inside.Plain inside.Escape piece.Nothing cs 92 (117 ∷ a ∷ b ∷ c ∷ d ∷ rest) refl refl
-        (text_go inside.Escape (inside.Unit hexes.Zero) piece.Nothing cs 117 (a ∷ b ∷ c ∷ d ∷ rest) refl refl
-        (text_go (inside.Unit hexes.Zero) (inside.Unit (hexes.One (hexed a))) piece.Nothing cs a (b ∷ c ∷ d ∷ rest) refl (is_true (hex a) _ _ ha)
-        (text_go (inside.Unit (hexes.One (hexed a))) (inside.Unit (hexes.Two (hexed a) (hexed b))) piece.Nothing cs b (c ∷ d ∷ rest) refl (is_true (hex b) _ _ hb ∙ is_false (eqb (hexed a) 13 && leb 12 (hexed b)) _ _ f12)
-        (text_go (inside.Unit (hexes.Two (hexed a) (hexed b))) (inside.Unit (hexes.Three (hexed a) (hexed b) (hexed c))) piece.Nothing cs c (d ∷ rest) refl (is_true (hex c) _ _ hc)
+        text_go inside.Plain inside.Escape None cs 92 (117 ∷ a ∷ b ∷ c ∷ d ∷ rest) refl refl
+        (text_go inside.Escape (inside.Unit hexes.Zero) None cs 117 (a ∷ b ∷ c ∷ d ∷ rest) refl refl
+        (text_go (inside.Unit hexes.Zero) (inside.Unit (hexes.One (hexed a))) None cs a (b ∷ c ∷ d ∷ rest) refl (is_true (hex a) _ _ ha)
+        (text_go (inside.Unit (hexes.One (hexed a))) (inside.Unit (hexes.Two (hexed a) (hexed b))) None cs b (c ∷ d ∷ rest) refl (is_true (hex b) _ _ hb ∙ is_false (eqb (hexed a) 13 && leb 12 (hexed b)) _ _ f12)
+        (text_go (inside.Unit (hexes.Two (hexed a) (hexed b))) (inside.Unit (hexes.Three (hexed a) (hexed b) (hexed c))) None cs c (d ∷ rest) refl (is_true (hex c) _ _ hc)
         (text_go (inside.Unit (hexes.Three (hexed a) (hexed b) (hexed c))) y p cs d rest refl (is_true (hex d) _ _ hd ∙ e) k)))))
 
     -- the low surrogate behind a high one
     low_run : (cs : List ℕ) (h a b c d : ℕ) (rest : List ℕ) → hex a ≡ true → hex b ≡ true → hex c ≡ true → hex d ≡ true → eqb (hexed a) 13 ≡ true → leb 12 (hexed b) ≡ true
-        → ((j : ℕ) → Goes (texting inside.Plain (added cs (piece.Char (pair h (unit (hexed a) (hexed b) (hexed c) (hexed d)))))) j rest) → (j : ℕ) → Goes (texting (inside.High h) cs) j (92 ∷ 117 ∷ a ∷ b ∷ c ∷ d ∷ rest)
+        → ((j : ℕ) → Goes (texting inside.Plain (added cs (Some (piece.Char (pair h (unit (hexed a) (hexed b) (hexed c) (hexed d))))))) j rest) → (j : ℕ) → Goes (texting (inside.High h) cs) j (92 ∷ 117 ∷ a ∷ b ∷ c ∷ d ∷ rest)
     low_run cs h a b c d rest ha hb hc hd e13 e12 k =
-        text_go (inside.High h) (inside.HighEscape h) piece.Nothing cs 92 (117 ∷ a ∷ b ∷ c ∷ d ∷ rest) refl refl
-        (text_go (inside.HighEscape h) (inside.Low h hexes.Zero) piece.Nothing cs 117 (a ∷ b ∷ c ∷ d ∷ rest) refl refl
-        (text_go (inside.Low h hexes.Zero) (inside.Low h (hexes.One (hexed a))) piece.Nothing cs a (b ∷ c ∷ d ∷ rest) refl (is_true (hex a) _ _ ha ∙ is_true (eqb (hexed a) 13) _ _ e13)
-        (text_go (inside.Low h (hexes.One (hexed a))) (inside.Low h (hexes.Two (hexed a) (hexed b))) piece.Nothing cs b (c ∷ d ∷ rest) refl (is_true (hex b) _ _ hb ∙ is_true (leb 12 (hexed b)) _ _ e12)
-        (text_go (inside.Low h (hexes.Two (hexed a) (hexed b))) (inside.Low h (hexes.Three (hexed a) (hexed b) (hexed c))) piece.Nothing cs c (d ∷ rest) refl (is_true (hex c) _ _ hc)
-        (text_go (inside.Low h (hexes.Three (hexed a) (hexed b) (hexed c))) inside.Plain (piece.Char (pair h (unit (hexed a) (hexed b) (hexed c) (hexed d)))) cs d rest refl (is_true (hex d) _ _ hd) k)))))
+        text_go (inside.High h) (inside.HighEscape h) None cs 92 (117 ∷ a ∷ b ∷ c ∷ d ∷ rest) refl refl
+        (text_go (inside.HighEscape h) (inside.Low h hexes.Zero) None cs 117 (a ∷ b ∷ c ∷ d ∷ rest) refl refl
+        (text_go (inside.Low h hexes.Zero) (inside.Low h (hexes.One (hexed a))) None cs a (b ∷ c ∷ d ∷ rest) refl (is_true (hex a) _ _ ha ∙ is_true (eqb (hexed a) 13) _ _ e13)
+        (text_go (inside.Low h (hexes.One (hexed a))) (inside.Low h (hexes.Two (hexed a) (hexed b))) None cs b (c ∷ d ∷ rest) refl (is_true (hex b) _ _ hb ∙ is_true (leb 12 (hexed b)) _ _ e12)
+        (text_go (inside.Low h (hexes.Two (hexed a) (hexed b))) (inside.Low h (hexes.Three (hexed a) (hexed b) (hexed c))) None cs c (d ∷ rest) refl (is_true (hex c) _ _ hc)
+        (text_go (inside.Low h (hexes.Three (hexed a) (hexed b) (hexed c))) inside.Plain (Some (piece.Char (pair h (unit (hexed a) (hexed b) (hexed c) (hexed d))))) cs d rest refl (is_true (hex d) _ _ hd) k)))))
 
     character_run : {c w : List ℕ} (cs rest : List ℕ) → Character c w → ((j : ℕ) → Goes (texting inside.Plain (cs ++ c)) j rest) → (j : ℕ) → Goes (texting inside.Plain cs) j (w ++ rest)
     character_run cs rest (Character.raw raw) k = raw_run cs rest raw k
     character_run cs rest (Character.escape b c e) k =
-        text_go inside.Plain inside.Escape piece.Nothing cs 92 (b ∷ rest) refl refl (text_go inside.Escape inside.Plain (piece.Byte c) cs b rest refl (ap (λ o. escaped_by o b) e) k)
+        text_go inside.Plain inside.Escape None cs 92 (b ∷ rest) refl refl (text_go inside.Escape inside.Plain (Some (piece.Byte c)) cs b rest refl (ap (λ o. escaped_by o b) e) k)
     character_run cs rest (Character.single (CodeUnit.digits a b c d ha hb hc hd) e) k =
-        unit-run cs a b c d inside.Plain (piece.Char (unit (hexed a) (hexed b) (hexed c) (hexed d))) rest ha hb hc hd (alone_12 (hexed a) (hexed b) (hexed c) (hexed d) (hex_small c hc) (hex_small d hd) (hex_small b hb) e)
-        (is_false (eqb (hexed a) 13 && leb 8 (hexed b)) _ _ (alone_8 (hexed a) (hexed b) (hexed c) (hexed d) (hex_small c hc) (hex_small d hd) (hex_small b hb) e)) k
+        unit-run cs a b c d inside.Plain (Some (piece.Char (unit (hexed a) (hexed b) (hexed c) (hexed d)))) rest ha hb hc hd (alone_12 (hexed a) (hexed b) (hexed c) (hexed d) (hex_small c hc) (hex_small d hd) (hex_small b hb) e)
+        (is_true (scalar (unit (hexed a) (hexed b) (hexed c) (hexed d))) _ _ (alone-scalar (unit (hexed a) (hexed b) (hexed c) (hexed d)) (unit_small a b c d ha hb hc hd) e)) k
     character_run cs rest (Character.twins (CodeUnit.digits a b c d ha hb hc hd) e (CodeUnit.digits x y z w hx hy hz hw) l) k =
-        unit-run cs a b c d (inside.High (unit (hexed a) (hexed b) (hexed c) (hexed d))) piece.Nothing (92 ∷ 117 ∷ x ∷ y ∷ z ∷ w ∷ rest) ha hb hc hd (high_12 (hexed a) (hexed b) (hexed c) (hexed d) (hex_small c hc) (hex_small d hd) (hex_small b hb) e)
-        (is_true (eqb (hexed a) 13 && leb 8 (hexed b)) _ _ (high_8 (hexed a) (hexed b) (hexed c) (hexed d) (hex_small c hc) (hex_small d hd) (hex_small b hb) e))
+        unit-run cs a b c d (inside.High (unit (hexed a) (hexed b) (hexed c) (hexed d))) None (92 ∷ 117 ∷ x ∷ y ∷ z ∷ w ∷ rest) ha hb hc hd (high_12 (hexed a) (hexed b) (hexed c) (hexed d) (hex_small c hc) (hex_small d hd) (hex_small b hb) e)
+        (is_false (scalar (unit (hexed a) (hexed b) (hexed c) (hexed d))) _ _ (high-scalar (unit (hexed a) (hexed b) (hexed c) (hexed d)) e))
         (low_run cs (unit (hexed a) (hexed b) (hexed c) (hexed d)) x y z w rest hx hy hz hw (low_13 (hexed x) (hexed y) (hexed z) (hexed w) (hex_small z hz) (hex_small w hw) (hex_small y hy) l) (low_12 (hexed x) (hexed y) (hexed z) (hexed w) (hex_small z hz) (hex_small w hw) (hex_small y hy) l) k)
 
     pub chars_run : {cs s : List ℕ} (rest : List ℕ) → Chars cs s → ((j : ℕ) → Goes (texting inside.Plain cs) j rest) → (i : ℕ) → Goes (texting inside.Plain []) i (s ++ rest)

@@ -1,5 +1,4 @@
 pub mod Cases
-pub mod Stacks
 pub mod Roomy
 pub mod Turns
 pub mod Strings

@@ -4,14 +4,14 @@ use Rattle.std.proofs.lemmas.Bool.Decides.{nat_tests}
 use Rattle.std.specs.Char.{is_ascii_digit}
 use Rattle.json_scanner.specs.declared.modes.Figures.{Figures}
 use Rattle.json_scanner.specs.declared.modes.Figures.TheVariants as figures
-use Rattle.json_scanner.specs.declared.modes.Verdict.TheVariants as verdict
+use Rattle.json_scanner.specs.declared.modes.NumberError.TheVariants as number_error
 use Rattle.json_scanner.specs.declared.modes.Mode.TheVariants as mode
 use Rattle.json_scanner.specs.declared.modes.Act.TheVariants as act
 use Rattle.json_scanner.specs.declared.modes.Fault.{Fault}
 use Rattle.json_scanner.specs.declared.modes.Fault.TheVariants as fault
 use Rattle.json_scanner.specs.declared.modes.Ready.{Ready}
 use Rattle.json_scanner.specs.Grammar.{Tree, white, power, sign, unfit, Numeral, Whole, Digits, Exponent, Real}
-use Rattle.json_scanner.specs.Bytes.{begun, judged, figured, figure, settled, still, then}
+use Rattle.json_scanner.specs.Bytes.{goes, begun, judged, figured, figure, settled, still, then}
 use Rattle.json_scanner.specs.Machine.{State, Frame, kinds, put, surroundings, carried, stepped, step, prepared, ended, run}
 use Rattle.json_scanner.proofs.Cases.{by_cond, is_true, is_false, never}
 use Rattle.json_scanner.proofs.Shape.{made_of}
@@ -26,7 +26,7 @@ after f bs n = made_of mode.After n [] f bs
 abbrev pub numbering : Figures → ℕ → Frame → List Frame → ℕ → State
 numbering g from f bs n = made_of (mode.Number g from) n [] f bs
 
-digit_begun : (f : Frame) (bs : List Frame) (n i b : ℕ) → is_ascii_digit b ≡ true → begun mode.Want (surroundings (kinds f bs) n) i b ≡ Ok (mode.Number (figures.Whole false (b - 48)) i, act.Stay)
+digit_begun : (f : Frame) (bs : List Frame) (n i b : ℕ) → is_ascii_digit b ≡ true → begun mode.Want (surroundings i (kinds f bs) n) b ≡ goes (mode.Number (figures.Whole false (b - 48)) i) act.Stay
 digit_begun f bs n i b e =
     let w : white b ≡ false = grind (arith, nat_tests) in
     let x : eqb b 91 ≡ false = grind (arith, nat_tests) in
@@ -42,7 +42,7 @@ whole-step : (g : Bool) (k from : ℕ) (f : Frame) (bs : List Frame) (n i b : �
 whole-step g k from f bs n i b e =
     ap (λ r. then r (λ q. stepped i (prepared q (numbering (figures.Whole g k) from f bs n)) b)) (is_true (figure b) (Ok (still (mode.Number (figures.Whole g k) from) n)) (settled (mode.Number (figures.Whole g k) from) n) e)
 
-digit_figured : (g : Bool) (k b : ℕ) → is_ascii_digit b ≡ true → 0 < k → figured (figures.Whole g k) b ≡ cond (unfit g (k * 10 + (b - 48))) verdict.Unfit (verdict.Goes (figures.Whole g (k * 10 + (b - 48))))
+digit_figured : (g : Bool) (k b : ℕ) → is_ascii_digit b ≡ true → 0 < k → figured (figures.Whole g k) b ≡ cond (unfit g (k * 10 + (b - 48))) (Err number_error.Unfit) (Ok (figures.Whole g (k * 10 + (b - 48))))
 digit_figured g k b e pos =
     let np : eqb b 46 ≡ false = grind (arith, nat_tests) in
     let ne : power b ≡ false = grind (arith, nat_tests) in
@@ -55,10 +55,10 @@ digit_figure b e = grind (arith, nat_tests)
 power-figure : (b : ℕ) → power b ≡ true → figure b ≡ true
 power-figure b e = grind (arith, nat_tests)
 
-power-figured : (g : Bool) (k b : ℕ) → power b ≡ true → figured (figures.Whole g k) b ≡ verdict.Goes figures.Power
+power-figured : (g : Bool) (k b : ℕ) → power b ≡ true → figured (figures.Whole g k) b ≡ Ok figures.Power
 power-figured g k b e = let p : eqb b 46 ≡ false = grind (arith, nat_tests) in is_false (eqb b 46) _ _ p ∙ is_true (power b) _ _ e
 
-sign-figured : (b : ℕ) → sign b ≡ true → figured figures.Power b ≡ verdict.Goes figures.Sign
+sign-figured : (b : ℕ) → sign b ≡ true → figured figures.Power b ≡ Ok figures.Sign
 sign-figured b e = let d : is_ascii_digit b ≡ false = grind (arith, nat_tests) in is_false (is_ascii_digit b) _ _ d ∙ is_true (sign b) _ _ e
 
 unfit_more : (g : Bool) (k b : ℕ) → 0 < k → unfit g k ≡ true → unfit g (k * 10 + (b - 48)) ≡ true
@@ -96,7 +96,7 @@ module _ (N : ℕ) (P : Result Tree Fault → Type 0) (from : ℕ) (f : Frame) (
       (numeral_run st g (b ∷ rest) i first num (λ h. bad (unfit_more g m b pos h))
       (λ _ j eq.
       let at : State = numbering (figures.Whole g m) from f bs n in
-      let moves : step j at b ≡ carried (judged (cond (unfit g (m * 10 + (b - 48))) verdict.Unfit (verdict.Goes (figures.Whole g (m * 10 + (b - 48))))) n from j) at = whole-step g m from f bs n j b (digit_figure b e) ∙ ap (λ v. carried (judged v n from j) at) (digit_figured g m b e pos) in
+      let moves : step j at b ≡ carried (judged (cond (unfit g (m * 10 + (b - 48))) (Err number_error.Unfit) (Ok (figures.Whole g (m * 10 + (b - 48))))) n from j) at = whole-step g m from f bs n j b (digit_figure b e) ∙ ap (λ v. carried (judged v n from j) at) (digit_figured g m b e pos) in
       subst (λ r. P (then r (λ x. run x (j + 1) rest))) (sym moves)
       (by_cond (λ v. P (then (carried (judged v n from j) at) (λ x. run x (j + 1) rest))) (unfit g (m * 10 + (b - 48))) _ _ bad (λ fit. k fit (j + 1) (omega arith)))))
 
@@ -108,7 +108,7 @@ module _ (N : ℕ) (P : Result Tree Fault → Type 0) (from : ℕ) (f : Frame) (
       (λ z. by_cond (λ v. P (then (carried (judged v n from i) at) (λ x. run x (i + 1) r))) (is_ascii_digit b) _ _ (λ _. k (minus_fits b e z) (i + 1) (omega arith)) (λ x. never (sym x ∙ e))))
 
   -- a digit behind a point or an exponent
-  digit_stop : (g : Figures) (s rest : List ℕ) → ((b : ℕ) → is_ascii_digit b ≡ true → figured g b ≡ verdict.Unfit) → settled (mode.Number g from) n ≡ Ok (still (mode.Number g from) n) → Digits s → P (Err (fault.Number from)) → (i : ℕ) → Goes N P (numbering g from f bs n) i (s ++ rest)
+  digit_stop : (g : Figures) (s rest : List ℕ) → ((b : ℕ) → is_ascii_digit b ≡ true → figured g b ≡ (Err number_error.Unfit)) → settled (mode.Number g from) n ≡ Ok (still (mode.Number g from) n) → Digits s → P (Err (fault.Number from)) → (i : ℕ) → Goes N P (numbering g from f bs n) i (s ++ rest)
   digit_stop g s rest stops st ds bad i =
       let h = digits-first ds in
       subst (λ l. Goes N P (numbering g from f bs n) i (l ++ rest)) (sym h.3)

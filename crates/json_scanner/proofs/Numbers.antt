@@ -1,11 +1,11 @@
 -- A number that is being read, by the grammar, and how it can be completed.
-use Rattle.std.proofs.Common.{◌≡◌, ℕ, ◌+◌, ◌-◌, ◌*◌, ◌<◌, Bool, true, false, ◌||◌, eqb, List, [], ◌∷◌, ◌++◌, sym, refl, ap, subst, inl, inr, append_assoc, append-nil, arith, eqb-true}
+use Rattle.std.proofs.Common.{◌≡◌, ℕ, ◌+◌, ◌-◌, ◌*◌, ◌<◌, Bool, true, false, ◌||◌, eqb, List, [], ◌∷◌, ◌++◌, Ok, Err, Result, sym, refl, ap, subst, inl, inr, append_assoc, append-nil, arith, eqb-true}
 use Rattle.std.proofs.lemmas.Bool.Decides.{nat_tests}
 use Rattle.std.specs.Char.{is_ascii_digit}
 use Rattle.json_scanner.specs.declared.modes.Figures.{Figures}
 use Rattle.json_scanner.specs.declared.modes.Figures.TheVariants as figures
-use Rattle.json_scanner.specs.declared.modes.Verdict.{Verdict}
-use Rattle.json_scanner.specs.declared.modes.Verdict.TheVariants as verdict
+use Rattle.json_scanner.specs.declared.modes.NumberError.{NumberError}
+use Rattle.json_scanner.specs.declared.modes.NumberError.TheVariants as number_error
 use Rattle.json_scanner.specs.Grammar.{Tree, power, sign, unfit, Numeral, Whole, Digits, Exponent, Real, Value}
 use Rattle.json_scanner.specs.Bytes.{figured}
 use Rattle.json_scanner.specs.Faults.{Unfit, starts}
@@ -19,10 +19,10 @@ pub data NumberPart : Figures → List ℕ → Type 0 where
   signed : {g : Bool} {k : ℕ} {s : List ℕ} (e h : ℕ) → Whole g k s → power e ≡ true → sign h ≡ true → NumberPart figures.Sign (s ++ e ∷ h ∷ [])
 
 -- what a byte makes of a number
-abbrev pub Judged : List ℕ → ℕ → Verdict → Type 0
-Judged p b (verdict.Goes f) = NumberPart f (p ++ b ∷ [])
-Judged p b verdict.Unfit = Unfit (p ++ b ∷ [])
-Judged p b verdict.Breaks = Unit {0}
+abbrev pub Judged : List ℕ → ℕ → Result Figures NumberError → Type 0
+Judged p b (Ok f) = NumberPart f (p ++ b ∷ [])
+Judged p b (Err number_error.Unfit) = Unfit (p ++ b ∷ [])
+Judged p b (Err number_error.Broken) = Unit {0}
 
 whole_more : {g : Bool} {k : ℕ} {s : List ℕ} (b : ℕ) → Whole g k s → 0 < k → is_ascii_digit b ≡ true → Whole g (k * 10 + (b - 48)) (s ++ b ∷ [])
 whole_more b (Whole.plus num) pos d = Whole.plus (Numeral.more b num pos d)
@@ -33,11 +33,11 @@ positive n e = grind (arith, nat_tests)
 
 pub number_grows : {f : Figures} {p : List ℕ} (b : ℕ) → NumberPart f p → Judged p b (figured f b)
 number_grows b minus =
-    let P : Verdict → Type 0 = Judged (45 ∷ []) b in
+    let P : Result Figures NumberError → Type 0 = Judged (45 ∷ []) b in
     by_cond P (eqb b 48) _ _ (λ e. subst (λ x. Unfit (45 ∷ x ∷ [])) (sym (eqb-true b 48 e)) (inl (true, 0, Whole.minus (Numeral.digit 48 refl), refl)))
     (λ _. by_cond P (is_ascii_digit b) _ _ (λ d. whole (Whole.minus (Numeral.digit b d))) (λ _. tt))
 number_grows b (whole {g} {k} {s} num) =
-    let P : Verdict → Type 0 = Judged s b in
+    let P : Result Figures NumberError → Type 0 = Judged s b in
     by_cond P (eqb b 46) _ _ (λ e. subst (λ x. NumberPart figures.Point (s ++ x ∷ [])) (sym (eqb-true b 46 e)) (point num))
     (λ _. by_cond P (power b) _ _ (λ e. raised b num e)
     (λ _. by_cond P (is_ascii_digit b) _ _
@@ -47,7 +47,7 @@ number_grows b (whole {g} {k} {s} num) =
 number_grows b (point {g} {k} {s} num) =
     by_cond (Judged (s ++ 46 ∷ []) b) (is_ascii_digit b) _ _ (λ d. inr (subst Real (sym (append_assoc s (46 ∷ []) (b ∷ []))) (Real.point num (Digits.one b d)))) (λ _. tt)
 number_grows b (raised {g} {k} {s} e num he) =
-    let P : Verdict → Type 0 = Judged (s ++ e ∷ []) b in
+    let P : Result Figures NumberError → Type 0 = Judged (s ++ e ∷ []) b in
     by_cond P (is_ascii_digit b) _ _ (λ d. inr (subst Real (sym (append_assoc s (e ∷ []) (b ∷ []))) (Real.raised num (Exponent.bare e he (Digits.one b d)))))
     (λ _. by_cond P (sign b) _ _ (λ h. subst (NumberPart figures.Sign) (sym (append_assoc s (e ∷ []) (b ∷ []))) (signed e b num he h)) (λ _. tt))
 number_grows b (signed {g} {k} {s} e h num he hh) =

@@ -7,16 +7,15 @@ use Rattle.json_scanner.specs.declared.modes.Container.TheVariants as container
 use Rattle.json_scanner.specs.declared.modes.Role.{Role}
 use Rattle.json_scanner.specs.declared.modes.Figures.{Figures}
 use Rattle.json_scanner.specs.declared.modes.Figures.TheVariants as figures
-use Rattle.json_scanner.specs.declared.modes.Verdict.{Verdict}
-use Rattle.json_scanner.specs.declared.modes.Verdict.TheVariants as verdict
+use Rattle.json_scanner.specs.declared.modes.NumberError.{NumberError}
+use Rattle.json_scanner.specs.declared.modes.NumberError.TheVariants as number_error
 use Rattle.json_scanner.specs.declared.modes.Around.{Around}
 use Rattle.json_scanner.specs.declared.modes.Mode.{Mode}
 use Rattle.json_scanner.specs.declared.modes.Mode.TheVariants as mode
-use Rattle.json_scanner.specs.declared.modes.Act.{Act}
 use Rattle.json_scanner.specs.declared.modes.Fault.{Fault}
 use Rattle.json_scanner.specs.declared.modes.Fault.TheVariants as fault
 use Rattle.json_scanner.specs.Grammar.{Tree, white, Text, Viable}
-use Rattle.json_scanner.specs.Bytes.{Move, Spelled, moved, begun, opening, beginning, keyed, followed, judged, broken_off, noted, spelled, closing, letter, figured, figure, settled, settled_figures, readied, then}
+use Rattle.json_scanner.specs.Bytes.{Moved, Spelling, moved, begun, opening, beginning, keyed, followed, judged, broken_off, noted, spelled, closing, letter, figured, figure, settled, settled_figures, readied, then}
 use Rattle.json_scanner.specs.Machine.{State, Frame, kinds, surroundings, carried, stepped, step, prepared, ended, only, finished, run, start}
 use Rattle.json_scanner.specs.Faults.{Breaks}
 use Rattle.json_scanner.proofs.Cases.{by_cond}
@@ -40,16 +39,17 @@ either : {A : Type 0} (i : ℕ) (t : Bool) (x y : Result A Fault) → Blamed i x
 either i true x y f h = f
 either i false x y f h = h
 
-opening_blamed : (a : Around) (i : ℕ) (m : Mode) (x : Act) → Blamed i (opening a i m x)
-opening_blamed a i m x = either i (leb 200 a.depth) _ _ tt (either i (leb 4096 a.values) _ _ tt tt)
+opening_blamed : (a : Around) (m : Mode) (c : Container) → Blamed a.place (opening a m c)
+opening_blamed a m c = either a.place (leb 200 a.depth) _ _ tt (either a.place (leb 4096 a.values) _ _ tt tt)
 
-beginning_blamed : (a : Around) (i : ℕ) (m : Mode) → Blamed i (beginning a i m)
-beginning_blamed a i m = either i (leb 4096 a.values) _ _ tt tt
+beginning_blamed : (a : Around) (m : Mode) → Blamed a.place (beginning a m)
+beginning_blamed a m = either a.place (leb 4096 a.values) _ _ tt tt
 
-begun_blamed : (m : Mode) (a : Around) (i b : ℕ) → Blamed i (begun m a i b)
-begun_blamed m a i b =
-    either i (white b) _ _ tt (either i (eqb b 91) _ _ (opening_blamed a i _ _) (either i (eqb b 123) _ _ (opening_blamed a i _ _) (either i (eqb b 45) _ _ tt (either i (is_ascii_digit b) _ _ tt
-    (either i (eqb b 34) _ _ (beginning_blamed a i _) (either i (eqb b 110) _ _ (beginning_blamed a i _) (either i (eqb b 116) _ _ (beginning_blamed a i _) (either i (eqb b 102) _ _ (beginning_blamed a i _) refl))))))))
+begun_blamed : (m : Mode) (a : Around) (b : ℕ) → Blamed a.place (begun m a b)
+begun_blamed m a b =
+    let i : ℕ = a.place in
+    either i (white b) _ _ tt (either i (eqb b 91) _ _ (opening_blamed a _ _) (either i (eqb b 123) _ _ (opening_blamed a _ _) (either i (eqb b 45) _ _ tt (either i (is_ascii_digit b) _ _ tt
+    (either i (eqb b 34) _ _ (beginning_blamed a _) (either i (eqb b 110) _ _ (beginning_blamed a _) (either i (eqb b 116) _ _ (beginning_blamed a _) (either i (eqb b 102) _ _ (beginning_blamed a _) refl))))))))
 
 keyed_blamed : (m : Mode) (i b : ℕ) → Blamed i (keyed m i b)
 keyed_blamed m i b = either i (white b) _ _ tt (either i (eqb b 34) _ _ tt refl)
@@ -62,27 +62,27 @@ followed_blamed (Some container.Object) i b = either i (eqb b 44) _ _ tt (either
 broken_at : (n from i : ℕ) → At i (broken_off n from i)
 broken_at n from i = by_cond (At i) (leb 4096 n) _ _ (λ _. tt) (λ _. refl)
 
-judged_blamed : (v : Verdict) (n from i : ℕ) → Blamed i (judged v n from i)
-judged_blamed (verdict.Goes f) n from i = tt
-judged_blamed verdict.Unfit n from i = tt
-judged_blamed verdict.Breaks n from i = broken_at n from i
+judged_blamed : (v : Result Figures NumberError) (n from i : ℕ) → Blamed i (judged v n from i)
+judged_blamed (Ok f) n from i = tt
+judged_blamed (Err number_error.Unfit) n from i = tt
+judged_blamed (Err number_error.Broken) n from i = broken_at n from i
 
-noted_blamed : (r : Role) (s : Spelled) (i : ℕ) → Blamed i (noted r s i)
+noted_blamed : (r : Role) (s : Spelling) (i : ℕ) → Blamed i (noted r s i)
 noted_blamed r (Some x) i = tt
 noted_blamed r None i = refl
 
-moved_blamed : (m : Mode) (a : Around) (i b : ℕ) → Blamed i (moved m a i b)
-moved_blamed mode.Want a i b = begun_blamed mode.Want a i b
-moved_blamed mode.First a i b = either i (eqb b 93) _ _ tt (begun_blamed mode.First a i b)
-moved_blamed mode.FirstKey a i b = either i (eqb b 125) _ _ tt (keyed_blamed mode.FirstKey i b)
-moved_blamed mode.NextKey a i b = keyed_blamed mode.NextKey i b
-moved_blamed mode.Colon a i b = either i (white b) _ _ tt (either i (eqb b 58) _ _ tt refl)
-moved_blamed mode.After a i b = either i (white b) _ _ tt (followed_blamed a.inner i b)
-moved_blamed (mode.Word w) a i b = either i (eqb b (letter w)) _ _ tt refl
-moved_blamed (mode.Number f from) a i b = judged_blamed (figured f b) a.values from i
-moved_blamed (mode.Text r x) a i b = either i (closing x b) _ _ tt (noted_blamed r (spelled x b) i)
+moved_blamed : (m : Mode) (a : Around) (b : ℕ) → Blamed a.place (moved m a b)
+moved_blamed mode.Want a b = begun_blamed mode.Want a b
+moved_blamed mode.First a b = either a.place (eqb b 93) _ _ tt (begun_blamed mode.First a b)
+moved_blamed mode.FirstKey a b = either a.place (eqb b 125) _ _ tt (keyed_blamed mode.FirstKey a.place b)
+moved_blamed mode.NextKey a b = keyed_blamed mode.NextKey a.place b
+moved_blamed mode.Colon a b = either a.place (white b) _ _ tt (either a.place (eqb b 58) _ _ tt refl)
+moved_blamed mode.After a b = either a.place (white b) _ _ tt (followed_blamed a.inner a.place b)
+moved_blamed (mode.Word w) a b = either a.place (eqb b (letter w)) _ _ tt refl
+moved_blamed (mode.Number f from) a b = judged_blamed (figured f b) a.values from a.place
+moved_blamed (mode.Text r x) a b = either a.place (closing x b) _ _ tt (noted_blamed r (spelled x b) a.place)
 
-carried_blamed : (i : ℕ) (mv : Move) (st : State) → Blamed i mv → Blamed i (carried mv st)
+carried_blamed : (i : ℕ) (mv : Moved) (st : State) → Blamed i mv → Blamed i (carried mv st)
 carried_blamed i (Ok m) st h = tt
 carried_blamed i (Err f) st h = h
 
@@ -111,7 +111,7 @@ then_blamed i (Err f) k h g = h
 step_blamed : (i : ℕ) (st : State) (b : ℕ) → Blamed i (step i st b)
 step_blamed i st b =
     then_blamed i (readied b st.mode st.values) (λ r. stepped i (prepared r st) b) (either i (figure b) _ _ tt (settled_blamed i st.mode st.values))
-    (λ r. let q : State = prepared r st in carried_blamed i (moved q.mode (surroundings (kinds q.top q.below) q.values) i b) q (moved_blamed q.mode (surroundings (kinds q.top q.below) q.values) i b))
+    (λ r. let q : State = prepared r st in carried_blamed i (moved q.mode (surroundings i (kinds q.top q.below) q.values) b) q (moved_blamed q.mode (surroundings i (kinds q.top q.below) q.values) b))
 
 only_blamed : (i : ℕ) (f : Frame) (bs : List Frame) → Blamed i (only i f bs)
 only_blamed i f [] = tt

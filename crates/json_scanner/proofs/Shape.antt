@@ -1,26 +1,26 @@
 -- What the machine has read, by the grammar: soundness, and that each state can be completed.
-use Rattle.std.proofs.Common.{◌≡◌, ℕ, suc, ◌+◌, ◌-◌, ◌≤◌, true, false, cond, ◌||◌, eqb, leb, List, [], ◌∷◌, ◌++◌, length, Some, None, Ok, Err, Result, sym, refl, ap, ◌∙◌, subst, append_assoc, append-nil, arith, eqb-true}
+use Rattle.std.proofs.Common.{◌≡◌, ℕ, suc, ◌+◌, ◌-◌, ◌≤◌, true, false, cond, ◌||◌, eqb, leb, List, [], ◌∷◌, ◌++◌, length, Some, None, Ok, Err, Option, Result, sym, refl, ap, ◌∙◌, subst, append_assoc, append-nil, arith, eqb-true}
 use Rattle.std.proofs.lemmas.Bool.Decides.{nat_tests}
 use Rattle.std.specs.Char.{is_ascii_digit}
 use Rattle.json_scanner.specs.declared.modes.Role.TheVariants as role
 use Rattle.json_scanner.specs.declared.modes.Inside.{Inside}
 use Rattle.json_scanner.specs.declared.modes.Inside.TheVariants as inside
 use Rattle.json_scanner.specs.declared.modes.Piece.{Piece}
-use Rattle.json_scanner.specs.declared.modes.Piece.TheVariants as piece
+use Rattle.json_scanner.specs.declared.modes.Container.{Container}
+use Rattle.json_scanner.specs.declared.modes.Container.TheVariants as container
 use Rattle.json_scanner.specs.declared.modes.Word.{Word}
 use Rattle.json_scanner.specs.declared.modes.Word.TheVariants as word
 use Rattle.json_scanner.specs.declared.modes.Figures.{Figures}
 use Rattle.json_scanner.specs.declared.modes.Figures.TheVariants as figures
-use Rattle.json_scanner.specs.declared.modes.Verdict.{Verdict}
-use Rattle.json_scanner.specs.declared.modes.Verdict.TheVariants as verdict
+use Rattle.json_scanner.specs.declared.modes.NumberError.{NumberError}
+use Rattle.json_scanner.specs.declared.modes.NumberError.TheVariants as number_error
 use Rattle.json_scanner.specs.declared.modes.Mode.{Mode}
 use Rattle.json_scanner.specs.declared.modes.Mode.TheVariants as mode
-use Rattle.json_scanner.specs.declared.modes.Act.{Act}
 use Rattle.json_scanner.specs.declared.modes.Act.TheVariants as act
 use Rattle.json_scanner.specs.declared.modes.Fault.{Fault}
 use Rattle.json_scanner.specs.declared.modes.Fault.TheVariants as fault
 use Rattle.json_scanner.specs.Grammar.{Tree, Trees, nil, Members, none, size, white, Blank, Whole, Numeral, Chars, Name, Value, Elements, Entries, Text}
-use Rattle.json_scanner.specs.Bytes.{Move, Spelled, begun, opening, beginning, keyed, judged, broken_off, noted, act_of, spelled, closing, letter, spelling, figured}
+use Rattle.json_scanner.specs.Bytes.{Moved, Spelling, goes, begun, opening, beginning, keyed, judged, broken_off, noted, act_of, spelled, closing, letter, spelling, figured}
 use Rattle.json_scanner.specs.Machine.{State, Frame, sole, items, fields, field, kinds, put, surroundings, performed, carried, stepped}
 use Rattle.json_scanner.specs.Faults.{Inner, Place, top, within, values_before, inner_values, starts, Nests, Misfits, Crowds}
 use Rattle.json_scanner.proofs.Cases.{by_cond, or_left, or_right, reached}
@@ -196,13 +196,13 @@ module _ {f : Frame} {bs : List Frame} {u : List ℕ} (i b n : ℕ) (at : i ≡ 
   bracket_starts : (eqb b 91 || eqb b 123) ≡ true → starts b ≡ true
   bracket_starts e = grind (arith, nat_tests)
 
-  opening_good : (m k : Mode) (x : Act) → (eqb b 91 || eqb b 123) ≡ true → Shaped (performed x k (made_of m n [] f bs)) (u ++ b ∷ [])
-      → Good (u ++ b ∷ []) (carried (opening (surroundings (kinds f bs) n) i k x) (made_of m n [] f bs))
-  opening_good m k x br ok =
-      let P : Move → Type 0 = λ mv. Good (u ++ b ∷ []) (carried mv (made_of m n [] f bs)) in
+  opening_good : (m k : Mode) (c : Container) → (eqb b 91 || eqb b 123) ≡ true → Shaped (performed (act.Open c) k (made_of m n [] f bs)) (u ++ b ∷ [])
+      → Good (u ++ b ∷ []) (carried (opening (surroundings i (kinds f bs) n) k c) (made_of m n [] f bs))
+  opening_good m k c br ok =
+      let P : Moved → Type 0 = λ mv. Good (u ++ b ∷ []) (carried mv (made_of m n [] f bs)) in
       by_cond P (leb 200 (length (kinds f bs))) _ _ (nests br) (λ _. by_cond P (leb 4096 n) _ _ (crowds (bracket_starts br)) (λ _. ok))
 
-  beginning_good : (m k : Mode) → starts b ≡ true → begins k ≡ 1 → Shape k [] f bs (u ++ b ∷ []) → Good (u ++ b ∷ []) (carried (beginning (surroundings (kinds f bs) n) i k) (made_of m n [] f bs))
+  beginning_good : (m k : Mode) → starts b ≡ true → begins k ≡ 1 → Shape k [] f bs (u ++ b ∷ []) → Good (u ++ b ∷ []) (carried (beginning (surroundings i (kinds f bs) n) k) (made_of m n [] f bs))
   beginning_good m k st one ok =
       by_cond (λ mv. Good (u ++ b ∷ []) (carried mv (made_of m n [] f bs))) (leb 4096 n) _ _ (crowds st) (λ _. (ok, omega arith))
 
@@ -212,12 +212,12 @@ module _ {f : Frame} {bs : List Frame} {u : List ℕ} (i b n : ℕ) (at : i ≡ 
   starts_at : (c : ℕ) → starts c ≡ true → eqb b c ≡ true → starts b ≡ true
   starts_at c s e = subst (λ x. starts x ≡ true) (sym (eqb-true b c e)) s
 
-  begun_good : (m stay : Mode) → (white b ≡ true → Shaped (made_of stay n [] f bs) (u ++ b ∷ [])) → Good (u ++ b ∷ []) (carried (begun stay (surroundings (kinds f bs) n) i b) (made_of m n [] f bs))
+  begun_good : (m stay : Mode) → (white b ≡ true → Shaped (made_of stay n [] f bs) (u ++ b ∷ [])) → Good (u ++ b ∷ []) (carried (begun stay (surroundings i (kinds f bs) n) b) (made_of m n [] f bs))
   begun_good m stay stays =
-      let P : Move → Type 0 = λ mv. Good (u ++ b ∷ []) (carried mv (made_of m n [] f bs)) in
+      let P : Moved → Type 0 = λ mv. Good (u ++ b ∷ []) (carried mv (made_of m n [] f bs)) in
       by_cond P (white b) _ _ stays
-      (λ _. by_cond P (eqb b 91) _ _ (λ e. opening_good m mode.First act.OpenList (or_left (eqb b 91) (eqb b 123) e) (at_byte 91 e (Shape.first pl Blank.none), omega arith))
-      (λ _. by_cond P (eqb b 123) _ _ (λ e. opening_good m mode.FirstKey act.OpenObject (or_right (eqb b 91) (eqb b 123) e) (at_byte 123 e (Shape.key pl (Keys.first Blank.none)), omega arith))
+      (λ _. by_cond P (eqb b 91) _ _ (λ e. opening_good m mode.First container.List (or_left (eqb b 91) (eqb b 123) e) (at_byte 91 e (Shape.first pl Blank.none), omega arith))
+      (λ _. by_cond P (eqb b 123) _ _ (λ e. opening_good m mode.FirstKey container.Object (or_right (eqb b 91) (eqb b 123) e) (at_byte 123 e (Shape.key pl (Keys.first Blank.none)), omega arith))
       (λ _. by_cond P (eqb b 45) _ _ (λ e. subst (λ x. Shaped (made_of (mode.Number figures.Minus x) n [] f bs) (u ++ b ∷ [])) (sym at) (at_byte 45 e (amid pl (number NumberPart.minus)), omega arith))
       (λ _. by_cond P (is_ascii_digit b) _ _ (λ e. subst (λ x. Shaped (made_of (mode.Number (figures.Whole false (b - 48)) x) n [] f bs) (u ++ b ∷ [])) (sym at) (amid pl (number (NumberPart.whole (Whole.plus (Numeral.digit b e)))), omega arith))
       (λ _. by_cond P (eqb b 34) _ _ (λ e. beginning_good m (mode.Text role.Value inside.Plain) (starts_at 34 refl e) refl (at_byte 34 e (amid pl (text (between Chars.none)))))
@@ -261,92 +261,90 @@ number_crowds {f = f} {bs = bs} {u = u} {p = p} r n pl np cnt many =
 pub broken_right : {g : Figures} {f : Frame} {bs : List Frame} {u p : List ℕ} (r : List ℕ) (n i : ℕ) → Place f bs u → NumberPart g p → n ≡ values_before f bs + 0 → Right ((u ++ p) ++ r) (broken_off n (length u) i)
 broken_right {u = u} {p = p} r n i pl np cnt = by_cond (Right ((u ++ p) ++ r)) (leb 4096 n) _ _ (number_crowds r n pl np cnt) (λ _. tt)
 
-judged_good : {g : Figures} {f : Frame} {bs : List Frame} {u p : List ℕ} (v : Verdict) (i b n : ℕ) → Place f bs u → NumberPart g p → n ≡ values_before f bs + 0 → Judged p b v
+judged_good : {g : Figures} {f : Frame} {bs : List Frame} {u p : List ℕ} (v : Result Figures NumberError) (i b n : ℕ) → Place f bs u → NumberPart g p → n ≡ values_before f bs + 0 → Judged p b v
     → Good ((u ++ p) ++ b ∷ []) (carried (judged v n (length u) i) (made_of (mode.Number g (length u)) n [] f bs))
-judged_good {p = p} (verdict.Goes h) i b n pl np cnt j = (grows p b pl refl (number j), cnt)
-judged_good {f = f} {bs = bs} {u = u} {p = p} verdict.Unfit i b n pl np cnt j =
+judged_good {p = p} (Ok h) i b n pl np cnt j = (grows p b pl refl (number j), cnt)
+judged_good {f = f} {bs = bs} {u = u} {p = p} (Err number_error.Unfit) i b n pl np cnt j =
     record { before = u; digits = p ++ b ∷ []; rest = []; f = f; bs = bs; split = append_assoc u p (b ∷ []) ∙ ap (λ l. u ++ l) (sym (append-nil (p ++ b ∷ []))); place = refl; wanted = pl; misfit = j }
-judged_good verdict.Breaks i b n pl np cnt j = broken_right (b ∷ []) n i pl np cnt
+judged_good (Err number_error.Broken) i b n pl np cnt j = broken_right (b ∷ []) n i pl np cnt
 
 -- a string
-value-noted : {f : Frame} {bs : List Frame} {u : List ℕ} (cs s : List ℕ) (m : Mode) (b n : ℕ) → Place f bs u → n ≡ values_before f bs + 1 → (x : Inside) (p : Piece) → TextPart x (added cs p) (s ++ b ∷ [])
-    → Good ((u ++ 34 ∷ s) ++ b ∷ []) (carried (Ok (mode.Text role.Value x, act_of p)) (made_of m n cs f bs))
-value-noted cs s m b n pl cnt x piece.Nothing tp = (grows (34 ∷ s) b pl refl (text tp), cnt)
-value-noted cs s m b n pl cnt x (piece.Byte c) tp = (grows (34 ∷ s) b pl refl (text tp), cnt)
-value-noted cs s m b n pl cnt x (piece.Char c) tp = (grows (34 ∷ s) b pl refl (text tp), cnt)
+value-noted : {f : Frame} {bs : List Frame} {u : List ℕ} (cs s : List ℕ) (m : Mode) (b n : ℕ) → Place f bs u → n ≡ values_before f bs + 1 → (x : Inside) (p : Option Piece) → TextPart x (added cs p) (s ++ b ∷ [])
+    → Good ((u ++ 34 ∷ s) ++ b ∷ []) (carried (goes (mode.Text role.Value x) (act_of p)) (made_of m n cs f bs))
+value-noted cs s m b n pl cnt x None tp = (grows (34 ∷ s) b pl refl (text tp), cnt)
+value-noted cs s m b n pl cnt x (Some p) tp = (grows (34 ∷ s) b pl refl (text tp), cnt)
 
-value-spelled : {f : Frame} {bs : List Frame} {u : List ℕ} (cs s : List ℕ) (m : Mode) (i b n : ℕ) → Place f bs u → n ≡ values_before f bs + 1 → (sp : Spelled) → Grown cs s b sp
+value-spelled : {f : Frame} {bs : List Frame} {u : List ℕ} (cs s : List ℕ) (m : Mode) (i b n : ℕ) → Place f bs u → n ≡ values_before f bs + 1 → (sp : Spelling) → Grown cs s b sp
     → Good ((u ++ 34 ∷ s) ++ b ∷ []) (carried (noted role.Value sp i) (made_of m n cs f bs))
-value-spelled cs s m i b n pl cnt (Some x) g = value-noted cs s m b n pl cnt x.0 x.1 g
+value-spelled cs s m i b n pl cnt (Some x) g = value-noted cs s m b n pl cnt x.at x.piece g
 value-spelled cs s m i b n pl cnt None g = tt
 
 key_byte : {m : Mode} {ms : Members} {f : Frame} {bs : List Frame} {x : Inside} {cs u w : List ℕ} (s : List ℕ) (b : ℕ) → Place f bs u → Keys m ms w → TextPart x cs (s ++ b ∷ [])
     → Shape (mode.Text role.Key x) cs (fields ms) (f ∷ bs) ((u ++ (w ++ 34 ∷ s)) ++ b ∷ [])
 key_byte {u = u} {w = w} s b pl ks tp = subst (Shape _ _ _ _) (ap (λ l. u ++ l) (sym (append_assoc w (34 ∷ s) (b ∷ []))) ∙ sym (append_assoc u (w ++ 34 ∷ s) (b ∷ []))) (name pl ks tp)
 
-key_noted : {k : Mode} {ms : Members} {f : Frame} {bs : List Frame} {u w : List ℕ} (cs s : List ℕ) (m : Mode) (b n : ℕ) → Place f bs u → Keys k ms w → n ≡ values_before (fields ms) (f ∷ bs) + 0 → (x : Inside) (p : Piece) → TextPart x (added cs p) (s ++ b ∷ [])
-    → Good ((u ++ (w ++ 34 ∷ s)) ++ b ∷ []) (carried (Ok (mode.Text role.Key x, act_of p)) (made_of m n cs (fields ms) (f ∷ bs)))
-key_noted cs s m b n pl ks cnt x piece.Nothing tp = (key_byte s b pl ks tp, cnt)
-key_noted cs s m b n pl ks cnt x (piece.Byte c) tp = (key_byte s b pl ks tp, cnt)
-key_noted cs s m b n pl ks cnt x (piece.Char c) tp = (key_byte s b pl ks tp, cnt)
+key_noted : {k : Mode} {ms : Members} {f : Frame} {bs : List Frame} {u w : List ℕ} (cs s : List ℕ) (m : Mode) (b n : ℕ) → Place f bs u → Keys k ms w → n ≡ values_before (fields ms) (f ∷ bs) + 0 → (x : Inside) (p : Option Piece) → TextPart x (added cs p) (s ++ b ∷ [])
+    → Good ((u ++ (w ++ 34 ∷ s)) ++ b ∷ []) (carried (goes (mode.Text role.Key x) (act_of p)) (made_of m n cs (fields ms) (f ∷ bs)))
+key_noted cs s m b n pl ks cnt x None tp = (key_byte s b pl ks tp, cnt)
+key_noted cs s m b n pl ks cnt x (Some p) tp = (key_byte s b pl ks tp, cnt)
 
-key_spelled : {k : Mode} {ms : Members} {f : Frame} {bs : List Frame} {u w : List ℕ} (cs s : List ℕ) (m : Mode) (i b n : ℕ) → Place f bs u → Keys k ms w → n ≡ values_before (fields ms) (f ∷ bs) + 0 → (sp : Spelled) → Grown cs s b sp
+key_spelled : {k : Mode} {ms : Members} {f : Frame} {bs : List Frame} {u w : List ℕ} (cs s : List ℕ) (m : Mode) (i b n : ℕ) → Place f bs u → Keys k ms w → n ≡ values_before (fields ms) (f ∷ bs) + 0 → (sp : Spelling) → Grown cs s b sp
     → Good ((u ++ (w ++ 34 ∷ s)) ++ b ∷ []) (carried (noted role.Key sp i) (made_of m n cs (fields ms) (f ∷ bs)))
-key_spelled cs s m i b n pl ks cnt (Some x) g = key_noted cs s m b n pl ks cnt x.0 x.1 g
+key_spelled cs s m i b n pl ks cnt (Some x) g = key_noted cs s m b n pl ks cnt x.at x.piece g
 key_spelled cs s m i b n pl ks cnt None g = tt
 
 -- where a key is wanted
 keyed_good : {m : Mode} {ms : Members} {f : Frame} {bs : List Frame} {u w : List ℕ} (i b n : ℕ) → Place f bs u → Keys m ms w → begins m ≡ 0 → n ≡ values_before (fields ms) (f ∷ bs) + 0
     → Good ((u ++ w) ++ b ∷ []) (carried (keyed m i b) (made_of m n [] (fields ms) (f ∷ bs)))
 keyed_good {m} {ms} {f} {bs} {u} {w} i b n pl ks zero cnt =
-    let P : Move → Type 0 = λ mv. Good ((u ++ w) ++ b ∷ []) (carried mv (made_of m n [] (fields ms) (f ∷ bs))) in
+    let P : Moved → Type 0 = λ mv. Good ((u ++ w) ++ b ∷ []) (carried mv (made_of m n [] (fields ms) (f ∷ bs))) in
     by_cond P (white b) _ _ (λ h. (subst (Shape _ _ _ _) (sym (append_assoc u w (b ∷ []))) (key pl (keys_blank b h ks)), omega arith))
     (λ _. by_cond P (eqb b 34) _ _ (λ e. byte (u ++ w) b 34 e (subst (Shape _ _ _ _) (sym (append_assoc u w (34 ∷ []))) (name pl ks (between Chars.none)), cnt)) (λ _. tt))
 
 pub stepped_good : {m : Mode} {cs : List ℕ} {f : Frame} {bs : List Frame} {u : List ℕ} (i b n : ℕ) → i ≡ length u → Shape m cs f bs u → n ≡ values_before f bs + begins m → Good (u ++ b ∷ []) (stepped i (made_of m n cs f bs) b)
 stepped_good i b n at (Shape.first {f = f} {bs = bs} {u = u} {a = a} pl ba) cnt =
-    let P : Move → Type 0 = λ mv. Good ((u ++ 91 ∷ a) ++ b ∷ []) (carried mv (made_of mode.First n [] (items nil) (f ∷ bs))) in
+    let P : Moved → Type 0 = λ mv. Good ((u ++ 91 ∷ a) ++ b ∷ []) (carried mv (made_of mode.First n [] (items nil) (f ∷ bs))) in
     by_cond P (eqb b 93) _ _
     (λ e. byte (u ++ 91 ∷ a) b 93 e (after (subst (Held _ _) (simp append_assoc) (puts pl (Value.empty_list ba))), omega (arith, put_count (Tree.list nil) pl)))
     (λ _. begun_good i b n at (within pl (Inner.first ba)) (omega arith) mode.First mode.First (λ w. (subst (Shape _ _ _ _) (sym (append_assoc u (91 ∷ a) (b ∷ []))) (Shape.first pl (Blank.more b ba w)), cnt)))
 stepped_good i b n at (key {f = f} {bs = bs} {u = u} pl (Keys.first {a = a} ba)) cnt =
-    let P : Move → Type 0 = λ mv. Good ((u ++ 123 ∷ a) ++ b ∷ []) (carried mv (made_of mode.FirstKey n [] (fields none) (f ∷ bs))) in
+    let P : Moved → Type 0 = λ mv. Good ((u ++ 123 ∷ a) ++ b ∷ []) (carried mv (made_of mode.FirstKey n [] (fields none) (f ∷ bs))) in
     by_cond P (eqb b 125) _ _
     (λ e. byte (u ++ 123 ∷ a) b 125 e (after (subst (Held _ _) (simp append_assoc) (puts pl (Value.empty_object ba))), omega (arith, put_count (Tree.object none) pl)))
     (λ _. keyed_good i b n pl (Keys.first ba) refl cnt)
 stepped_good i b n at (key pl (Keys.next en ba)) cnt = keyed_good i b n pl (Keys.next en ba) refl cnt
 stepped_good i b n at (name {ms = ms} {f = f} {bs = bs} {x = x} {cs = cs} {u = u} {w = w} {s = s} pl ks tp) cnt =
-    let P : Move → Type 0 = λ mv. Good ((u ++ (w ++ 34 ∷ s)) ++ b ∷ []) (carried mv (made_of (mode.Text role.Key x) n cs (fields ms) (f ∷ bs))) in
+    let P : Moved → Type 0 = λ mv. Good ((u ++ (w ++ 34 ∷ s)) ++ b ∷ []) (carried mv (made_of (mode.Text role.Key x) n cs (fields ms) (f ∷ bs))) in
     by_cond P (closing x b) _ _
     (λ e. let c = text_closes b tp e in byte (u ++ (w ++ 34 ∷ s)) b 34 c.1 (subst (Shape _ _ _ _) (sym (append_assoc u (w ++ 34 ∷ s) (34 ∷ []))) (colon pl ks c.0 Blank.none), cnt))
     (λ _. key_spelled cs s (mode.Text role.Key x) i b n pl ks cnt (spelled x b) (text_grows b tp))
 stepped_good i b n at (colon {ms = ms} {f = f} {bs = bs} {k = k} {u = u} {w = w} {s = s} {b = c} pl ks ch bb) cnt =
-    let P : Move → Type 0 = λ mv. Good ((u ++ (w ++ 34 ∷ s ++ 34 ∷ c)) ++ b ∷ []) (carried mv (made_of mode.Colon n [] (field ms k) (f ∷ bs))) in
+    let P : Moved → Type 0 = λ mv. Good ((u ++ (w ++ 34 ∷ s ++ 34 ∷ c)) ++ b ∷ []) (carried mv (made_of mode.Colon n [] (field ms k) (f ∷ bs))) in
     by_cond P (white b) _ _
     (λ h. (subst (Shape _ _ _ _) (ap (λ l. u ++ l) (sym (append_assoc (w ++ 34 ∷ s) (34 ∷ c) (b ∷ []))) ∙ sym (append_assoc u (w ++ 34 ∷ s ++ 34 ∷ c) (b ∷ []))) (colon pl ks ch (Blank.more b bb h)), cnt))
     (λ _. by_cond P (eqb b 58) _ _
     (λ e. byte (u ++ (w ++ 34 ∷ s ++ 34 ∷ c)) b 58 e (subst (Shape _ _ _ _) (append-nil _ ∙ sym (append_assoc u (w ++ 34 ∷ s ++ 34 ∷ c) (58 ∷ []))) (amid (within pl (named ks ch bb Blank.none)) want), cnt))
     (λ _. tt))
 stepped_good i b n at (after (Held.whole {v = v} {s = s} tx)) cnt =
-    let P : Move → Type 0 = λ mv. Good (s ++ b ∷ []) (carried mv (made_of mode.After n [] (sole v) [])) in
+    let P : Moved → Type 0 = λ mv. Good (s ++ b ∷ []) (carried mv (made_of mode.After n [] (sole v) [])) in
     by_cond P (white b) _ _ (λ w. (after (held-blank b w (Held.whole tx)), cnt)) (λ _. tt)
 stepped_good i b n at (after (behind {f = f} {bs = bs} {u = u} pl (elements {ts = ts} {e = e} el))) cnt =
-    let P : Move → Type 0 = λ mv. Good ((u ++ 91 ∷ e) ++ b ∷ []) (carried mv (made_of mode.After n [] (items ts) (f ∷ bs))) in
+    let P : Moved → Type 0 = λ mv. Good ((u ++ 91 ∷ e) ++ b ∷ []) (carried mv (made_of mode.After n [] (items ts) (f ∷ bs))) in
     by_cond P (white b) _ _ (λ w. (after (held-blank b w (behind pl (elements el))), cnt))
     (λ _. by_cond P (eqb b 44) _ _ (λ q. byte (u ++ 91 ∷ e) b 44 q (subst (Shape _ _ _ _) (append-nil _ ∙ sym (append_assoc u (91 ∷ e) (44 ∷ []))) (amid (within pl (Inner.next el Blank.none)) want), cnt))
     (λ _. by_cond P (eqb b 93) _ _ (λ q. byte (u ++ 91 ∷ e) b 93 q (after (close_list pl el), omega (arith, put_count (Tree.list ts) pl))) (λ _. tt)))
 stepped_good i b n at (after (behind {f = f} {bs = bs} {u = u} pl (entries {ms = ms} {e = e} en))) cnt =
-    let P : Move → Type 0 = λ mv. Good ((u ++ 123 ∷ e) ++ b ∷ []) (carried mv (made_of mode.After n [] (fields ms) (f ∷ bs))) in
+    let P : Moved → Type 0 = λ mv. Good ((u ++ 123 ∷ e) ++ b ∷ []) (carried mv (made_of mode.After n [] (fields ms) (f ∷ bs))) in
     by_cond P (white b) _ _ (λ w. (after (held-blank b w (behind pl (entries en))), cnt))
     (λ _. by_cond P (eqb b 44) _ _ (λ q. byte (u ++ 123 ∷ e) b 44 q (subst (Shape _ _ _ _) (sym (append_assoc u (123 ∷ e) (44 ∷ []))) (key pl (Keys.next en Blank.none)), cnt))
     (λ _. by_cond P (eqb b 125) _ _ (λ q. byte (u ++ 123 ∷ e) b 125 q (after (close_object pl en), omega (arith, put_count (Tree.object ms) pl))) (λ _. tt)))
 stepped_good i b n at (amid {f = f} {bs = bs} {u = u} pl want) cnt =
-    subst (λ x. Good (x ++ b ∷ []) (carried (begun mode.Want (surroundings (kinds f bs) n) i b) (made_of mode.Want n [] f bs))) (sym (append-nil u))
+    subst (λ x. Good (x ++ b ∷ []) (carried (begun mode.Want (surroundings i (kinds f bs) n) b) (made_of mode.Want n [] f bs))) (sym (append-nil u))
     (begun_good i b n (at ∙ ap length (append-nil u)) pl (omega arith) mode.Want mode.Want (λ w. (subst (Shape _ _ _ _) (append-nil _) (amid (place-blank b w pl) want), cnt)))
 stepped_good i b n at (amid pl (literal w)) cnt = word_good w i b n pl cnt
 stepped_good i b n at (amid pl (number {f = g} np)) cnt = judged_good (figured g b) i b n pl np cnt (number_grows b np)
 stepped_good i b n at (amid {f = f} {bs = bs} {u = u} pl (text {x = x} {cs = cs} {s = s} tp)) cnt =
-    let P : Move → Type 0 = λ mv. Good ((u ++ 34 ∷ s) ++ b ∷ []) (carried mv (made_of (mode.Text role.Value x) n cs f bs)) in
+    let P : Moved → Type 0 = λ mv. Good ((u ++ 34 ∷ s) ++ b ∷ []) (carried mv (made_of (mode.Text role.Value x) n cs f bs)) in
     by_cond P (closing x b) _ _
     (λ e. let c = text_closes b tp e in byte (u ++ 34 ∷ s) b 34 c.1 (last (34 ∷ s) 34 pl refl (Value.string c.0), omega (arith, put_count (Tree.text cs) pl)))
     (λ _. value-spelled cs s (mode.Text role.Value x) i b n pl cnt (spelled x b) (text_grows b tp))

@@ -1,22 +1,21 @@
 -- A string that is being read, by the grammar, and how it can be completed.
 use Rattle.std.proofs.Common.{◌≡◌, ℕ, ◌<◌, Bool, true, false, cond, ◌&&◌, eqb, leb, ◌⊎◌, List, [], ◌∷◌, ◌++◌, Some, None, Option, sym, refl, ◌∙◌, subst, inl, inr, append_assoc, append-nil, arith, eqb-true}
-use lib.Utf8.{encode}
+use lib.Utf8.{scalar}
 use Rattle.std.proofs.lemmas.Bool.Decides.{nat_tests}
 use Rattle.json_scanner.specs.declared.modes.Tail.TheVariants as tails
 use Rattle.json_scanner.specs.declared.modes.Hex.TheVariants as hexes
 use Rattle.json_scanner.specs.declared.modes.Inside.{Inside}
 use Rattle.json_scanner.specs.declared.modes.Inside.TheVariants as inside
 use Rattle.json_scanner.specs.declared.modes.Piece.{Piece}
-use Rattle.json_scanner.specs.declared.modes.Piece.TheVariants as piece
 use Rattle.json_scanner.specs.Grammar.{plain, lead2, lead3, lead4, tail, second, simple, hex, hexed, unit, high, low, surrogate, Raw, CodeUnit, Character, Chars}
-use Rattle.json_scanner.specs.Bytes.{Spelled, led, escaped_by, spelled, closing}
+use Rattle.json_scanner.specs.Bytes.{Spelling, led, escaped_by, spelled, closing}
+use Rattle.json_scanner.specs.Machine.{bytes_of}
 use Rattle.json_scanner.proofs.Cases.{by_cond, never}
 
 -- the text with a piece more
-abbrev pub added : List ℕ → Piece → List ℕ
-added cs piece.Nothing = cs
-added cs (piece.Byte b) = cs ++ b ∷ []
-added cs (piece.Char c) = cs ++ encode c
+abbrev pub added : List ℕ → Option Piece → List ℕ
+added cs None = cs
+added cs (Some p) = cs ++ bytes_of p
 
 -- the inside of a string so far, with the text that it has added
 pub data TextPart : Inside → List ℕ → List ℕ → Type 0 where
@@ -45,20 +44,23 @@ pub data TextPart : Inside → List ℕ → List ℕ → Type 0 where
 pub hex_small : (b : ℕ) → hex b ≡ true → hexed b < 16
 hex_small b e = grind (arith, nat_tests)
 
--- which units are surrogates, by their first two digits
-pub unit-high : (x y z w : ℕ) → z < 16 → w < 16 → (eqb x 13 && leb 12 y) ≡ false → (eqb x 13 && leb 8 y) ≡ true → high (unit x y z w) ≡ true
-unit-high x y z w hz hw a b = grind (arith, nat_tests)
+pub unit_small : (a b c d : ℕ) → hex a ≡ true → hex b ≡ true → hex c ≡ true → hex d ≡ true → unit (hexed a) (hexed b) (hexed c) (hexed d) < 65536
+unit_small a b c d ha hb hc hd = omega (arith, hex_small a ha, hex_small b hb, hex_small c hc, hex_small d hd)
 
-pub unit-alone : (x y z w : ℕ) → y < 16 → z < 16 → w < 16 → (eqb x 13 && leb 8 y) ≡ false → surrogate (unit x y z w) ≡ false
-unit-alone x y z w hy hz hw b = grind (arith, nat_tests)
+-- which units are characters or surrogates
+pub scalar-alone : (u : ℕ) → scalar u ≡ true → surrogate u ≡ false
+scalar-alone u e = grind (arith, nat_tests)
+
+pub unit-high : (x y z w : ℕ) → x < 16 → y < 16 → z < 16 → w < 16 → (eqb x 13 && leb 12 y) ≡ false → scalar (unit x y z w) ≡ false → high (unit x y z w) ≡ true
+unit-high x y z w hx hy hz hw a b = grind (arith, nat_tests)
 
 pub unit-low : (x y z w : ℕ) → y < 16 → z < 16 → w < 16 → eqb x 13 ≡ true → leb 12 y ≡ true → low (unit x y z w) ≡ true
 unit-low x y z w hy hz hw a b = grind (arith, nat_tests)
 
 -- what a byte makes of a string
-abbrev pub Grown : List ℕ → List ℕ → ℕ → Spelled → Type 0
+abbrev pub Grown : List ℕ → List ℕ → ℕ → Spelling → Type 0
 Grown cs s b None = Unit {0}
-Grown cs s b (Some x) = TextPart x.0 (added cs x.1) (s ++ b ∷ [])
+Grown cs s b (Some x) = TextPart x.at (added cs x.piece) (s ++ b ∷ [])
 
 -- the same string, written otherwise
 alike : {x : Inside} {cs ds s t : List ℕ} → cs ≡ ds → s ≡ t → TextPart x cs s → TextPart x ds t
@@ -69,7 +71,7 @@ byte {x} {cs} s b c e h = subst (λ z. TextPart x cs (s ++ z ∷ [])) (sym (eqb-
 
 led_grows : {cs s : List ℕ} (b : ℕ) → Chars cs s → Grown cs s b (led b)
 led_grows {cs} {s} b ch =
-    let P : Spelled → Type 0 = Grown cs s b in
+    let P : Spelling → Type 0 = Grown cs s b in
     by_cond P (plain b) _ _ (λ e. between (Chars.more ch (Character.raw (Raw.one b e))))
     (λ _. by_cond P (lead2 b) _ _ (λ e. raw1 (b ∷ []) ch (λ c h. Raw.two b c e h))
     (λ _. by_cond P (lead3 b) _ _ (λ e. raw3 b ch e)
@@ -99,27 +101,27 @@ text_grows b (slash ch) = escape_grows b (simple b) refl ch
 text_grows b (unit0 {cs} {s} ch) =
     by_cond (Grown cs (s ++ 92 ∷ 117 ∷ []) b) (hex b) _ _ (λ e. alike refl (sym (append_assoc s (92 ∷ 117 ∷ []) (b ∷ []))) (unit1 b ch e)) (λ _. tt)
 text_grows b (unit1 {cs} {s} a ch ha) =
-    let P : Spelled → Type 0 = Grown cs (s ++ 92 ∷ 117 ∷ a ∷ []) b in
+    let P : Spelling → Type 0 = Grown cs (s ++ 92 ∷ 117 ∷ a ∷ []) b in
     by_cond P (hex b) _ _
     (λ e. by_cond P (eqb (hexed a) 13 && leb 12 (hexed b)) _ _ (λ _. tt) (λ f. alike refl (sym (append_assoc s (92 ∷ 117 ∷ a ∷ []) (b ∷ []))) (unit2 a b ch ha e f))) (λ _. tt)
 text_grows b (unit2 {cs} {s} a d ch ha hd f) =
     by_cond (Grown cs (s ++ 92 ∷ 117 ∷ a ∷ d ∷ []) b) (hex b) _ _ (λ e. alike refl (sym (append_assoc s (92 ∷ 117 ∷ a ∷ d ∷ []) (b ∷ []))) (unit3 a d b ch ha hd f e)) (λ _. tt)
 text_grows b (unit3 {cs} {s} a d c ch ha hd f hc) =
-    let P : Spelled → Type 0 = Grown cs (s ++ 92 ∷ 117 ∷ a ∷ d ∷ c ∷ []) b in
+    let P : Spelling → Type 0 = Grown cs (s ++ 92 ∷ 117 ∷ a ∷ d ∷ c ∷ []) b in
     by_cond P (hex b) _ _
-    (λ e. by_cond P (eqb (hexed a) 13 && leb 8 (hexed d)) _ _
-    (λ g. alike refl (sym (append_assoc s (92 ∷ 117 ∷ a ∷ d ∷ c ∷ []) (b ∷ []))) (high-unit ch (CodeUnit.digits a d c b ha hd hc e) (unit-high (hexed a) (hexed d) (hexed c) (hexed b) (hex_small c hc) (hex_small b e) f g)))
-    (λ g. alike refl (sym (append_assoc s (92 ∷ 117 ∷ a ∷ d ∷ c ∷ []) (b ∷ []))) (between (Chars.more ch (Character.single (CodeUnit.digits a d c b ha hd hc e) (unit-alone (hexed a) (hexed d) (hexed c) (hexed b) (hex_small d hd) (hex_small c hc) (hex_small b e) g))))))
+    (λ e. by_cond P (scalar (unit (hexed a) (hexed d) (hexed c) (hexed b))) _ _
+    (λ g. alike refl (sym (append_assoc s (92 ∷ 117 ∷ a ∷ d ∷ c ∷ []) (b ∷ []))) (between (Chars.more ch (Character.single (CodeUnit.digits a d c b ha hd hc e) (scalar-alone (unit (hexed a) (hexed d) (hexed c) (hexed b)) g)))))
+    (λ g. alike refl (sym (append_assoc s (92 ∷ 117 ∷ a ∷ d ∷ c ∷ []) (b ∷ []))) (high-unit ch (CodeUnit.digits a d c b ha hd hc e) (unit-high (hexed a) (hexed d) (hexed c) (hexed b) (hex_small a ha) (hex_small d hd) (hex_small c hc) (hex_small b e) f g))))
     (λ _. tt)
 text_grows b (high-unit {cs} {s} {w} ch cu hi) =
     by_cond (Grown cs (s ++ w) b) (eqb b 92) _ _ (λ e. byte (s ++ w) b 92 e (alike refl (sym (append_assoc s w (92 ∷ []))) (high_slash ch cu hi))) (λ _. tt)
 text_grows b (high_slash {cs} {s} {w} ch cu hi) =
     by_cond (Grown cs (s ++ (w ++ 92 ∷ [])) b) (eqb b 117) _ _ (λ e. byte (s ++ (w ++ 92 ∷ [])) b 117 e (alike refl (simp append_assoc) (low0 ch cu hi))) (λ _. tt)
 text_grows b (low0 {cs} {s} {w} ch cu hi) =
-    let P : Spelled → Type 0 = Grown cs (s ++ (w ++ 92 ∷ 117 ∷ [])) b in
+    let P : Spelling → Type 0 = Grown cs (s ++ (w ++ 92 ∷ 117 ∷ [])) b in
     by_cond P (hex b) _ _ (λ e. by_cond P (eqb (hexed b) 13) _ _ (λ f. alike refl (simp append_assoc) (low1 b ch cu hi e f)) (λ _. tt)) (λ _. tt)
 text_grows b (low1 {cs} {s} {w} a ch cu hi ha f) =
-    let P : Spelled → Type 0 = Grown cs (s ++ (w ++ 92 ∷ 117 ∷ a ∷ [])) b in
+    let P : Spelling → Type 0 = Grown cs (s ++ (w ++ 92 ∷ 117 ∷ a ∷ [])) b in
     by_cond P (hex b) _ _ (λ e. by_cond P (leb 12 (hexed b)) _ _ (λ g. alike refl (simp append_assoc) (low2 a b ch cu hi ha f e g)) (λ _. tt)) (λ _. tt)
 text_grows b (low2 {cs} {s} {w} a d ch cu hi ha f hd g) =
     by_cond (Grown cs (s ++ (w ++ 92 ∷ 117 ∷ a ∷ d ∷ [])) b) (hex b) _ _ (λ e. alike refl (simp append_assoc) (low3 a d b ch cu hi ha f hd g e)) (λ _. tt)
@@ -175,11 +177,11 @@ unit_completed {cs} {s} {w} ch cu (inr e) =
 
 -- four digits, the first two of which do not begin a low surrogate
 digits_completed : {cs s : List ℕ} (a b c d : ℕ) → Chars cs s → hex a ≡ true → hex b ≡ true → hex c ≡ true → hex d ≡ true → (eqb (hexed a) 13 && leb 12 (hexed b)) ≡ false → Completed (s ++ 92 ∷ 117 ∷ a ∷ b ∷ c ∷ d ∷ [])
-digits_completed {cs} {s} a b c d ch ha hb hc hd f = by_way (way (eqb (hexed a) 13 && leb 8 (hexed b)))
+digits_completed {cs} {s} a b c d ch ha hb hc hd f = by_way (way (scalar (unit (hexed a) (hexed b) (hexed c) (hexed d))))
   where
-    by_way : ((eqb (hexed a) 13 && leb 8 (hexed b)) ≡ true) ⊎ ((eqb (hexed a) 13 && leb 8 (hexed b)) ≡ false) → Completed (s ++ 92 ∷ 117 ∷ a ∷ b ∷ c ∷ d ∷ [])
-    by_way (inl e) = unit_completed ch (CodeUnit.digits a b c d ha hb hc hd) (inr (unit-high (hexed a) (hexed b) (hexed c) (hexed d) (hex_small c hc) (hex_small d hd) f e))
-    by_way (inr e) = unit_completed ch (CodeUnit.digits a b c d ha hb hc hd) (inl (unit-alone (hexed a) (hexed b) (hexed c) (hexed d) (hex_small b hb) (hex_small c hc) (hex_small d hd) e))
+    by_way : (scalar (unit (hexed a) (hexed b) (hexed c) (hexed d)) ≡ true) ⊎ (scalar (unit (hexed a) (hexed b) (hexed c) (hexed d)) ≡ false) → Completed (s ++ 92 ∷ 117 ∷ a ∷ b ∷ c ∷ d ∷ [])
+    by_way (inl e) = unit_completed ch (CodeUnit.digits a b c d ha hb hc hd) (inl (scalar-alone (unit (hexed a) (hexed b) (hexed c) (hexed d)) e))
+    by_way (inr e) = unit_completed ch (CodeUnit.digits a b c d ha hb hc hd) (inr (unit-high (hexed a) (hexed b) (hexed c) (hexed d) (hex_small a ha) (hex_small b hb) (hex_small c hc) (hex_small d hd) f e))
 
 zero-second : (x : ℕ) → (eqb x 13 && leb 12 0) ≡ false
 zero-second x = grind (arith, nat_tests)

@@ -1,6 +1,7 @@
 -- What a byte does, in each mode of the scanner.
 use Rattle.std.specs.Prelude.{ℕ, ◌+◌, ◌-◌, ◌*◌, ◌^◌, min, Bool, true, false, cond, ◌&&◌, ◌||◌, pos, neg_ℤ, Some, None, Ok, Err, Option, Result, ◌==◌, nat_le, nat_lt}
 use Rattle.std.specs.Char.{is_ascii_digit}
+use Rattle.std.proofs.Math.Utf8.{scalar}
 use Rattle.json_scanner.specs.declared.modes.Container.{Container}
 use Rattle.json_scanner.specs.declared.modes.Container.TheVariants as container
 use Rattle.json_scanner.specs.declared.modes.Role.{Role}
@@ -13,16 +14,18 @@ use Rattle.json_scanner.specs.declared.modes.Inside.{Inside}
 use Rattle.json_scanner.specs.declared.modes.Inside.TheVariants as inside
 use Rattle.json_scanner.specs.declared.modes.Piece.{Piece}
 use Rattle.json_scanner.specs.declared.modes.Piece.TheVariants as piece
+use Rattle.json_scanner.specs.declared.modes.Spelled.{Spelled}
 use Rattle.json_scanner.specs.declared.modes.Word.{Word}
 use Rattle.json_scanner.specs.declared.modes.Word.TheVariants as word
 use Rattle.json_scanner.specs.declared.modes.Figures.{Figures}
 use Rattle.json_scanner.specs.declared.modes.Figures.TheVariants as figures
-use Rattle.json_scanner.specs.declared.modes.Verdict.{Verdict}
-use Rattle.json_scanner.specs.declared.modes.Verdict.TheVariants as verdict
+use Rattle.json_scanner.specs.declared.modes.NumberError.{NumberError}
+use Rattle.json_scanner.specs.declared.modes.NumberError.TheVariants as number_error
 use Rattle.json_scanner.specs.declared.modes.Mode.{Mode}
 use Rattle.json_scanner.specs.declared.modes.Mode.TheVariants as mode
 use Rattle.json_scanner.specs.declared.modes.Act.{Act}
 use Rattle.json_scanner.specs.declared.modes.Act.TheVariants as act
+use Rattle.json_scanner.specs.declared.modes.Move.{Move}
 use Rattle.json_scanner.specs.declared.modes.Fault.{Fault}
 use Rattle.json_scanner.specs.declared.modes.Fault.TheVariants as fault
 use Rattle.json_scanner.specs.declared.modes.Number.{Number}
@@ -33,59 +36,66 @@ use Rattle.json_scanner.specs.Grammar.{white, plain, lead2, lead3, lead4, tail, 
 
 -- ---- strings
 
--- where a character ends or goes on, and what is added to the text; nothing where no character can go on so
-abbrev pub Spelled : Type 0
-Spelled = Option (Inside × Piece)
+-- what a byte does in a string, or nothing where no character can go on so
+abbrev pub Spelling : Type 0
+Spelling = Option Spelled
+
+-- it leads there, and adds this
+abbrev pub spells : Inside → Option Piece → Spelling
+spells x p = Some (record { at = x; piece = p })
 
 -- the first byte of a character
-abbrev pub led : ℕ → Spelled
+abbrev pub led : ℕ → Spelling
 led b =
-    cond (plain b) (Some (inside.Plain, piece.Byte b))
-    (cond (lead2 b) (Some (inside.Raw tails.One, piece.Byte b))
-    (cond (lead3 b) (Some (inside.Raw (tails.SecondOfThree b), piece.Byte b))
-    (cond (lead4 b) (Some (inside.Raw (tails.SecondOfFour b), piece.Byte b))
-    (cond (b == 92) (Some (inside.Escape, piece.Nothing))
+    cond (plain b) (spells inside.Plain (Some (piece.Byte b)))
+    (cond (lead2 b) (spells (inside.Raw tails.One) (Some (piece.Byte b)))
+    (cond (lead3 b) (spells (inside.Raw (tails.SecondOfThree b)) (Some (piece.Byte b)))
+    (cond (lead4 b) (spells (inside.Raw (tails.SecondOfFour b)) (Some (piece.Byte b)))
+    (cond (b == 92) (spells inside.Escape None)
     None))))
 
 -- a further byte of a UTF-8 sequence
-abbrev pub tailed : Tail → ℕ → Spelled
-tailed tails.One b = cond (tail b) (Some (inside.Plain, piece.Byte b)) None
-tailed tails.Two b = cond (tail b) (Some (inside.Raw tails.One, piece.Byte b)) None
-tailed (tails.SecondOfThree a) b = cond (second a b) (Some (inside.Raw tails.One, piece.Byte b)) None
-tailed (tails.SecondOfFour a) b = cond (second a b) (Some (inside.Raw tails.Two, piece.Byte b)) None
+abbrev pub tailed : Tail → ℕ → Spelling
+tailed tails.One b = cond (tail b) (spells inside.Plain (Some (piece.Byte b))) None
+tailed tails.Two b = cond (tail b) (spells (inside.Raw tails.One) (Some (piece.Byte b))) None
+tailed (tails.SecondOfThree a) b = cond (second a b) (spells (inside.Raw tails.One) (Some (piece.Byte b))) None
+tailed (tails.SecondOfFour a) b = cond (second a b) (spells (inside.Raw tails.Two) (Some (piece.Byte b))) None
 
 -- where b stands for the character o behind a backslash, or for none
-abbrev pub escaped_by : Option ℕ → ℕ → Spelled
-escaped_by (Some c) b = Some (inside.Plain, piece.Byte c)
-escaped_by None b = cond (b == 117) (Some (inside.Unit hexes.Zero, piece.Nothing)) None
+abbrev pub escaped_by : Option ℕ → ℕ → Spelling
+escaped_by (Some c) b = spells inside.Plain (Some (piece.Byte c))
+escaped_by None b = cond (b == 117) (spells (inside.Unit hexes.Zero) None) None
 
 -- the byte behind a backslash
-abbrev pub escaped : ℕ → Spelled
+abbrev pub escaped : ℕ → Spelling
 escaped b = escaped_by (simple b) b
 
--- one more digit, of the value d, of a code unit that stands alone or is a high surrogate
-abbrev pub united : Hex → ℕ → Spelled
-united hexes.Zero d = Some (inside.Unit (hexes.One d), piece.Nothing)
-united (hexes.One a) d = cond (a == 13 && nat_le 12 d) None (Some (inside.Unit (hexes.Two a d), piece.Nothing))
-united (hexes.Two a b) d = Some (inside.Unit (hexes.Three a b d), piece.Nothing)
-united (hexes.Three a b c) d =
-    cond (a == 13 && nat_le 8 b) (Some (inside.High (unit a b c d), piece.Nothing)) (Some (inside.Plain, piece.Char (unit a b c d)))
+-- the value of a hexadecimal digit
+abbrev pub digit_of : ℕ → Option ℕ
+digit_of b = cond (hex b) (Some (hexed b)) None
+
+-- one more digit, of the value d, of a code unit that is a character or a high surrogate
+abbrev pub united : Hex → ℕ → Spelling
+united hexes.Zero d = spells (inside.Unit (hexes.One d)) None
+united (hexes.One a) d = cond (a == 13 && nat_le 12 d) None (spells (inside.Unit (hexes.Two a d)) None)
+united (hexes.Two a b) d = spells (inside.Unit (hexes.Three a b d)) None
+united (hexes.Three a b c) d = cond (scalar (unit a b c d)) (spells inside.Plain (Some (piece.Char (unit a b c d)))) (spells (inside.High (unit a b c d)) None)
 
 -- one more digit of the low surrogate behind h
-abbrev pub paired : ℕ → Hex → ℕ → Spelled
-paired h hexes.Zero d = cond (d == 13) (Some (inside.Low h (hexes.One d), piece.Nothing)) None
-paired h (hexes.One a) d = cond (nat_le 12 d) (Some (inside.Low h (hexes.Two a d), piece.Nothing)) None
-paired h (hexes.Two a b) d = Some (inside.Low h (hexes.Three a b d), piece.Nothing)
-paired h (hexes.Three a b c) d = Some (inside.Plain, piece.Char (pair h (unit a b c d)))
+abbrev pub paired : ℕ → Hex → ℕ → Spelling
+paired h hexes.Zero d = cond (d == 13) (spells (inside.Low h (hexes.One d)) None) None
+paired h (hexes.One a) d = cond (nat_le 12 d) (spells (inside.Low h (hexes.Two a d)) None) None
+paired h (hexes.Two a b) d = spells (inside.Low h (hexes.Three a b d)) None
+paired h (hexes.Three a b c) d = spells inside.Plain (Some (piece.Char (pair h (unit a b c d))))
 
 -- what the byte b does in a string, but for the quote that ends it
-abbrev pub spelled : Inside → ℕ → Spelled
+abbrev pub spelled : Inside → ℕ → Spelling
 spelled inside.Plain b = led b
 spelled (inside.Raw t) b = tailed t b
 spelled inside.Escape b = escaped b
 spelled (inside.Unit h) b = cond (hex b) (united h (hexed b)) None
-spelled (inside.High h) b = cond (b == 92) (Some (inside.HighEscape h, piece.Nothing)) None
-spelled (inside.HighEscape h) b = cond (b == 117) (Some (inside.Low h hexes.Zero, piece.Nothing)) None
+spelled (inside.High h) b = cond (b == 92) (spells (inside.HighEscape h) None) None
+spelled (inside.HighEscape h) b = cond (b == 117) (spells (inside.Low h hexes.Zero) None) None
 spelled (inside.Low h x) b = cond (hex b) (paired h x (hexed b)) None
 
 -- the quote that ends a string
@@ -101,23 +111,29 @@ closing (inside.Low h x) b = false
 -- ---- numbers
 
 -- one more digit, of the value d
-abbrev pub grown : Bool → ℕ → ℕ → Verdict
+abbrev pub grown : Bool → ℕ → ℕ → Result Figures NumberError
 grown minus n d =
-    cond (n == 0) verdict.Breaks
-    (cond (unfit minus (n * 10 + d)) verdict.Unfit
-    (verdict.Goes (figures.Whole minus (n * 10 + d))))
+    cond (n == 0) (Err number_error.Broken)
+    (cond (unfit minus (n * 10 + d)) (Err number_error.Unfit)
+    (Ok (figures.Whole minus (n * 10 + d))))
 
 -- what the byte b does to a number; a number that is known not to fit stays so
-abbrev pub figured : Figures → ℕ → Verdict
-figured figures.Minus b = cond (b == 48) verdict.Unfit (cond (is_ascii_digit b) (verdict.Goes (figures.Whole true (b - 48))) verdict.Breaks)
+abbrev pub figured : Figures → ℕ → Result Figures NumberError
+figured figures.Minus b =
+    cond (b == 48) (Err number_error.Unfit)
+    (cond (is_ascii_digit b) (Ok (figures.Whole true (b - 48)))
+    (Err number_error.Broken))
 figured (figures.Whole minus n) b =
-    cond (b == 46) (verdict.Goes figures.Point)
-    (cond (power b) (verdict.Goes figures.Power)
+    cond (b == 46) (Ok figures.Point)
+    (cond (power b) (Ok figures.Power)
     (cond (is_ascii_digit b) (grown minus n (b - 48))
-    verdict.Breaks))
-figured figures.Point b = cond (is_ascii_digit b) verdict.Unfit verdict.Breaks
-figured figures.Power b = cond (is_ascii_digit b) verdict.Unfit (cond (sign b) (verdict.Goes figures.Sign) verdict.Breaks)
-figured figures.Sign b = cond (is_ascii_digit b) verdict.Unfit verdict.Breaks
+    (Err number_error.Broken)))
+figured figures.Point b = cond (is_ascii_digit b) (Err number_error.Unfit) (Err number_error.Broken)
+figured figures.Power b =
+    cond (is_ascii_digit b) (Err number_error.Unfit)
+    (cond (sign b) (Ok figures.Sign)
+    (Err number_error.Broken))
+figured figures.Sign b = cond (is_ascii_digit b) (Err number_error.Unfit) (Err number_error.Broken)
 
 -- a byte with which an integer may go on
 abbrev pub figure : ℕ → Bool
@@ -128,9 +144,54 @@ abbrev pub valued : Bool → ℕ → Number
 valued false n = cond (nat_lt n (2 ^ 63)) (number.Int (pos n)) (number.Uint n)
 valued true n = number.Int (neg_ℤ (pos (min n (2 ^ 63))))
 
--- ---- literals
+-- ---- a byte
 
--- the next letter
+-- the next mode and the act, or a fault
+abbrev pub Moved : Type 0
+Moved = Result Move Fault
+
+abbrev pub leads : Mode → Act → Move
+leads m x = record { mode = m; act = x }
+
+abbrev pub goes : Mode → Act → Moved
+goes m x = Ok (leads m x)
+
+-- a list or an object opens
+abbrev pub opening : Around → Mode → Container → Moved
+opening a m c = cond (nat_le 200 a.depth) (Err (fault.Nested a.place)) (cond (nat_le 4096 a.values) (Err (fault.Crowded a.place)) (goes m (act.Open c)))
+
+-- a literal or a text begins
+abbrev pub beginning : Around → Mode → Moved
+beginning a m = cond (nat_le 4096 a.values) (Err (fault.Crowded a.place)) (goes m act.Begin)
+
+-- where a value is wanted
+abbrev pub begun : Mode → Around → ℕ → Moved
+begun stay a b =
+    cond (white b) (goes stay act.Stay)
+    (cond (b == 91) (opening a mode.First container.List)
+    (cond (b == 123) (opening a mode.FirstKey container.Object)
+    (cond (b == 45) (goes (mode.Number figures.Minus a.place) act.Stay)
+    (cond (is_ascii_digit b) (goes (mode.Number (figures.Whole false (b - 48)) a.place) act.Stay)
+    (cond (b == 34) (beginning a (mode.Text role.Value inside.Plain))
+    (cond (b == 110) (beginning a (mode.Word word.N))
+    (cond (b == 116) (beginning a (mode.Word word.T))
+    (cond (b == 102) (beginning a (mode.Word word.F))
+    (Err (fault.Malformed a.place))))))))))
+
+-- where a key is wanted, at i
+abbrev pub keyed : Mode → ℕ → ℕ → Moved
+keyed stay i b =
+    cond (white b) (goes stay act.Stay)
+    (cond (b == 34) (goes (mode.Text role.Key inside.Plain) act.Stay)
+    (Err (fault.Malformed i)))
+
+-- behind a value, at i
+abbrev pub followed : Option Container → ℕ → ℕ → Moved
+followed None i b = Err (fault.Malformed i)
+followed (Some container.List) i b = cond (b == 44) (goes mode.Want act.Stay) (cond (b == 93) (goes mode.After act.Close) (Err (fault.Malformed i)))
+followed (Some container.Object) i b = cond (b == 44) (goes mode.NextKey act.Stay) (cond (b == 125) (goes mode.After act.Close) (Err (fault.Malformed i)))
+
+-- the next letter of a literal
 abbrev pub letter : Word → ℕ
 letter word.N = 117
 letter word.Nu = 108
@@ -144,96 +205,54 @@ letter word.Fal = 115
 letter word.Fals = 101
 
 -- what the next letter does
-abbrev pub spelling : Word → Mode × Act
-spelling word.N = (mode.Word word.Nu, act.Stay)
-spelling word.Nu = (mode.Word word.Nul, act.Stay)
-spelling word.Nul = (mode.After, act.Null)
-spelling word.T = (mode.Word word.Tr, act.Stay)
-spelling word.Tr = (mode.Word word.Tru, act.Stay)
-spelling word.Tru = (mode.After, act.True)
-spelling word.F = (mode.Word word.Fa, act.Stay)
-spelling word.Fa = (mode.Word word.Fal, act.Stay)
-spelling word.Fal = (mode.Word word.Fals, act.Stay)
-spelling word.Fals = (mode.After, act.False)
+abbrev pub spelling : Word → Move
+spelling word.N = leads (mode.Word word.Nu) act.Stay
+spelling word.Nu = leads (mode.Word word.Nul) act.Stay
+spelling word.Nul = leads mode.After act.Null
+spelling word.T = leads (mode.Word word.Tr) act.Stay
+spelling word.Tr = leads (mode.Word word.Tru) act.Stay
+spelling word.Tru = leads mode.After (act.Bool true)
+spelling word.F = leads (mode.Word word.Fa) act.Stay
+spelling word.Fa = leads (mode.Word word.Fal) act.Stay
+spelling word.Fal = leads (mode.Word word.Fals) act.Stay
+spelling word.Fals = leads mode.After (act.Bool false)
 
--- ---- a byte
-
--- the next mode and the act, or a fault
-abbrev pub Move : Type 0
-Move = Result (Mode × Act) Fault
-
--- a list or an object opens
-abbrev pub opening : Around → ℕ → Mode → Act → Move
-opening a i m x = cond (nat_le 200 a.depth) (Err (fault.Nested i)) (cond (nat_le 4096 a.values) (Err (fault.Crowded i)) (Ok (m, x)))
-
--- a literal or a text begins
-abbrev pub beginning : Around → ℕ → Mode → Move
-beginning a i m = cond (nat_le 4096 a.values) (Err (fault.Crowded i)) (Ok (m, act.Begin))
-
--- where a value is wanted
-abbrev pub begun : Mode → Around → ℕ → ℕ → Move
-begun stay a i b =
-    cond (white b) (Ok (stay, act.Stay))
-    (cond (b == 91) (opening a i mode.First act.OpenList)
-    (cond (b == 123) (opening a i mode.FirstKey act.OpenObject)
-    (cond (b == 45) (Ok (mode.Number figures.Minus i, act.Stay))
-    (cond (is_ascii_digit b) (Ok (mode.Number (figures.Whole false (b - 48)) i, act.Stay))
-    (cond (b == 34) (beginning a i (mode.Text role.Value inside.Plain))
-    (cond (b == 110) (beginning a i (mode.Word word.N))
-    (cond (b == 116) (beginning a i (mode.Word word.T))
-    (cond (b == 102) (beginning a i (mode.Word word.F))
-    (Err (fault.Malformed i))))))))))
-
--- where a key is wanted
-abbrev pub keyed : Mode → ℕ → ℕ → Move
-keyed stay i b =
-    cond (white b) (Ok (stay, act.Stay))
-    (cond (b == 34) (Ok (mode.Text role.Key inside.Plain, act.Stay))
-    (Err (fault.Malformed i)))
-
--- behind a value
-abbrev pub followed : Option Container → ℕ → ℕ → Move
-followed None i b = Err (fault.Malformed i)
-followed (Some container.List) i b = cond (b == 44) (Ok (mode.Want, act.Stay)) (cond (b == 93) (Ok (mode.After, act.Close)) (Err (fault.Malformed i)))
-followed (Some container.Object) i b = cond (b == 44) (Ok (mode.NextKey, act.Stay)) (cond (b == 125) (Ok (mode.After, act.Close)) (Err (fault.Malformed i)))
-
--- the fault of a number that breaks off, which began at `from`: that it is one value too many comes first
+-- the fault of a number that breaks off at i, and began at `from`: that it is one value too many comes first
 abbrev pub broken_off : ℕ → ℕ → ℕ → Fault
 broken_off values from i = cond (nat_le 4096 values) (fault.Crowded from) (fault.Malformed i)
 
 -- a byte of a number that began at `from`
-abbrev pub judged : Verdict → ℕ → ℕ → ℕ → Move
-judged (verdict.Goes f) values from i = Ok (mode.Number f from, act.Stay)
-judged verdict.Unfit values from i = Err (fault.Number from)
-judged verdict.Breaks values from i = Err (broken_off values from i)
+abbrev pub judged : Result Figures NumberError → ℕ → ℕ → ℕ → Moved
+judged (Ok f) values from i = goes (mode.Number f from) act.Stay
+judged (Err number_error.Unfit) values from i = Err (fault.Number from)
+judged (Err number_error.Broken) values from i = Err (broken_off values from i)
 
 -- the act that adds to a text
-abbrev pub act_of : Piece → Act
-act_of piece.Nothing = act.Stay
-act_of (piece.Byte b) = act.Byte b
-act_of (piece.Char c) = act.Char c
+abbrev pub act_of : Option Piece → Act
+act_of None = act.Stay
+act_of (Some p) = act.Add p
 
--- a byte of a string
-abbrev pub noted : Role → Spelled → ℕ → Move
-noted r (Some x) i = Ok (mode.Text r x.0, act_of x.1)
+-- a byte of a string, at i
+abbrev pub noted : Role → Spelling → ℕ → Moved
+noted r (Some x) i = goes (mode.Text r x.at) (act_of x.piece)
 noted r None i = Err (fault.Malformed i)
 
 -- the end of a string
-abbrev pub quoted : Role → Mode × Act
-quoted role.Key = (mode.Colon, act.Key)
-quoted role.Value = (mode.After, act.Text)
+abbrev pub quoted : Role → Move
+quoted role.Key = leads mode.Colon act.Key
+quoted role.Value = leads mode.After act.Text
 
--- what the byte b at i does
-abbrev pub moved : Mode → Around → ℕ → ℕ → Move
-moved mode.Want a i b = begun mode.Want a i b
-moved mode.First a i b = cond (b == 93) (Ok (mode.After, act.Close)) (begun mode.First a i b)
-moved mode.FirstKey a i b = cond (b == 125) (Ok (mode.After, act.Close)) (keyed mode.FirstKey i b)
-moved mode.NextKey a i b = keyed mode.NextKey i b
-moved mode.Colon a i b = cond (white b) (Ok (mode.Colon, act.Stay)) (cond (b == 58) (Ok (mode.Want, act.Stay)) (Err (fault.Malformed i)))
-moved mode.After a i b = cond (white b) (Ok (mode.After, act.Stay)) (followed a.inner i b)
-moved (mode.Word w) a i b = cond (b == letter w) (Ok (spelling w)) (Err (fault.Malformed i))
-moved (mode.Number f from) a i b = judged (figured f b) a.values from i
-moved (mode.Text r x) a i b = cond (closing x b) (Ok (quoted r)) (noted r (spelled x b) i)
+-- what the byte b does
+abbrev pub moved : Mode → Around → ℕ → Moved
+moved mode.Want a b = begun mode.Want a b
+moved mode.First a b = cond (b == 93) (goes mode.After act.Close) (begun mode.First a b)
+moved mode.FirstKey a b = cond (b == 125) (goes mode.After act.Close) (keyed mode.FirstKey a.place b)
+moved mode.NextKey a b = keyed mode.NextKey a.place b
+moved mode.Colon a b = cond (white b) (goes mode.Colon act.Stay) (cond (b == 58) (goes mode.Want act.Stay) (Err (fault.Malformed a.place)))
+moved mode.After a b = cond (white b) (goes mode.After act.Stay) (followed a.inner a.place b)
+moved (mode.Word w) a b = cond (b == letter w) (Ok (spelling w)) (Err (fault.Malformed a.place))
+moved (mode.Number f from) a b = judged (figured f b) a.values from a.place
+moved (mode.Text r x) a b = cond (closing x b) (Ok (quoted r)) (noted r (spelled x b) a.place)
 
 -- ---- the end of a number
 

@@ -1,5 +1,5 @@
 -- The scanner as a machine that takes a byte at a time, and the value that its acts build.
-use Rattle.std.specs.Prelude.{ℕ, ◌+◌, true, false, List, [], ◌∷◌, ◌++◌, length, Some, None, Ok, Err, Option, Result}
+use Rattle.std.specs.Prelude.{ℕ, ◌+◌, List, [], ◌∷◌, ◌++◌, length, Some, None, Ok, Err, Option, Result}
 use Rattle.std.proofs.Math.Utf8.{encode}
 use Rattle.json_scanner.specs.declared.modes.Container.{Container}
 use Rattle.json_scanner.specs.declared.modes.Container.TheVariants as container
@@ -7,6 +7,9 @@ use Rattle.json_scanner.specs.declared.modes.Mode.{Mode}
 use Rattle.json_scanner.specs.declared.modes.Mode.TheVariants as mode
 use Rattle.json_scanner.specs.declared.modes.Act.{Act}
 use Rattle.json_scanner.specs.declared.modes.Act.TheVariants as act
+use Rattle.json_scanner.specs.declared.modes.Move.{Move}
+use Rattle.json_scanner.specs.declared.modes.Piece.{Piece}
+use Rattle.json_scanner.specs.declared.modes.Piece.TheVariants as piece
 use Rattle.json_scanner.specs.declared.modes.Fault.{Fault}
 use Rattle.json_scanner.specs.declared.modes.Fault.TheVariants as fault
 use Rattle.json_scanner.specs.declared.modes.Numeral.{Numeral}
@@ -14,7 +17,7 @@ use Rattle.json_scanner.specs.declared.modes.Around.{Around}
 use Rattle.json_scanner.specs.declared.modes.Ready.{Ready}
 use Rattle.json_scanner.specs.declared.modes.Step.{Step}
 use Rattle.json_scanner.specs.Grammar.{Tree, Trees, nil, snoc, Members, none, with}
-use Rattle.json_scanner.specs.Bytes.{Move, broken_off, moved, settled, readied, then}
+use Rattle.json_scanner.specs.Bytes.{Moved, broken_off, moved, settled, readied, then}
 
 -- ---- the scanner
 
@@ -38,47 +41,41 @@ abbrev pub outer : List Container → List Container
 outer [] = []
 outer (c ∷ cs) = cs
 
--- what a byte needs to know of them
-abbrev pub surroundings : List Container → ℕ → Around
-surroundings cs values = record { inner = innermost cs; depth = length cs; values = values }
+-- what stands around the byte at i
+abbrev pub surroundings : ℕ → List Container → ℕ → Around
+surroundings i cs values = record { place = i; inner = innermost cs; depth = length cs; values = values }
 
 -- the containers after an act
 abbrev pub arranged : Act → List Container → List Container
 arranged act.Stay cs = cs
 arranged act.Begin cs = cs
-arranged act.OpenList cs = container.List ∷ cs
-arranged act.OpenObject cs = container.Object ∷ cs
+arranged (act.Open c) cs = c ∷ cs
 arranged act.Close cs = outer cs
-arranged (act.Byte b) cs = cs
-arranged (act.Char c) cs = cs
+arranged (act.Add p) cs = cs
 arranged act.Key cs = cs
 arranged act.Text cs = cs
 arranged act.Null cs = cs
-arranged act.True cs = cs
-arranged act.False cs = cs
+arranged (act.Bool b) cs = cs
 
 -- the number of values after an act
 abbrev pub counted : Act → ℕ → ℕ
 counted act.Stay n = n
 counted act.Begin n = n + 1
-counted act.OpenList n = n + 1
-counted act.OpenObject n = n + 1
+counted (act.Open c) n = n + 1
 counted act.Close n = n
-counted (act.Byte b) n = n
-counted (act.Char c) n = n
+counted (act.Add p) n = n
 counted act.Key n = n
 counted act.Text n = n
 counted act.Null n = n
-counted act.True n = n
-counted act.False n = n
+counted (act.Bool b) n = n
 
 -- the scanner after a byte, and its answer
-abbrev pub arrived : List Container → Ready → Mode × Act → Control × Step
-arrived cs r m = (record { mode = m.0; around = arranged m.1 cs; values = counted m.1 r.values }, record { number = r.number; act = m.1 })
+abbrev pub arrived : List Container → Ready → Move → Control × Step
+arrived cs r m = (record { mode = m.mode; around = arranged m.act cs; values = counted m.act r.values }, record { number = r.number; act = m.act })
 
 -- what the byte b at i does to the scanner, and its answer
 abbrev pub turned : ℕ → Control → ℕ → Result (Control × Step) Fault
-turned i c b = then (readied b c.mode c.values) (λ r. then (moved r.mode (surroundings c.around r.values) i b) (λ m. Ok (arrived c.around r m)))
+turned i c b = then (readied b c.mode c.values) (λ r. then (moved r.mode (surroundings i c.around r.values) b) (λ m. Ok (arrived c.around r m)))
 
 -- the state that is left and the answer: at a fault all is as it was
 abbrev pub left_with : Control → Result (Control × Step) Fault → Control × Result Step Fault
@@ -180,20 +177,27 @@ abbrev pub closed : Mode → ℕ → List ℕ → Frame → List Frame → State
 closed m n cs f [] = record { mode = m; values = n; chars = cs; top = f; below = [] }
 closed m n cs f (g ∷ gs) = record { mode = m; values = n; chars = cs; top = put g (wrapped f); below = gs }
 
+-- a list or an object that opens
+abbrev pub opened : Container → Frame
+opened container.List = items nil
+opened container.Object = fields none
+
+-- the bytes that a piece adds to a text
+abbrev pub bytes_of : Piece → List ℕ
+bytes_of (piece.Byte b) = b ∷ []
+bytes_of (piece.Char c) = encode c
+
 -- what an act does
 abbrev pub performed : Act → Mode → State → State
 performed act.Stay m st = record { mode = m; values = st.values; chars = st.chars; top = st.top; below = st.below }
 performed act.Begin m st = record { mode = m; values = st.values + 1; chars = st.chars; top = st.top; below = st.below }
-performed act.OpenList m st = record { mode = m; values = st.values + 1; chars = st.chars; top = items nil; below = st.top ∷ st.below }
-performed act.OpenObject m st = record { mode = m; values = st.values + 1; chars = st.chars; top = fields none; below = st.top ∷ st.below }
+performed (act.Open c) m st = record { mode = m; values = st.values + 1; chars = st.chars; top = opened c; below = st.top ∷ st.below }
 performed act.Close m st = closed m st.values st.chars st.top st.below
-performed (act.Byte b) m st = record { mode = m; values = st.values; chars = st.chars ++ b ∷ []; top = st.top; below = st.below }
-performed (act.Char c) m st = record { mode = m; values = st.values; chars = st.chars ++ encode c; top = st.top; below = st.below }
+performed (act.Add p) m st = record { mode = m; values = st.values; chars = st.chars ++ bytes_of p; top = st.top; below = st.below }
 performed act.Key m st = record { mode = m; values = st.values; chars = []; top = naming st.top st.chars; below = st.below }
 performed act.Text m st = record { mode = m; values = st.values; chars = []; top = put st.top (Tree.text st.chars); below = st.below }
 performed act.Null m st = record { mode = m; values = st.values; chars = st.chars; top = put st.top Tree.null; below = st.below }
-performed act.True m st = record { mode = m; values = st.values; chars = st.chars; top = put st.top (Tree.bool true); below = st.below }
-performed act.False m st = record { mode = m; values = st.values; chars = st.chars; top = put st.top (Tree.bool false); below = st.below }
+performed (act.Bool b) m st = record { mode = m; values = st.values; chars = st.chars; top = put st.top (Tree.bool b); below = st.below }
 
 -- with the number that ended
 abbrev pub with_number : Option Numeral → Frame → Frame
@@ -210,13 +214,13 @@ abbrev pub prepared : Ready → State → State
 prepared r st = record { mode = r.mode; values = r.values; chars = st.chars; top = with_number r.number st.top; below = st.below }
 
 -- the act is performed
-abbrev pub carried : Move → State → Result State Fault
-carried (Ok m) st = Ok (performed m.1 m.0 st)
+abbrev pub carried : Moved → State → Result State Fault
+carried (Ok m) st = Ok (performed m.act m.mode st)
 carried (Err f) st = Err f
 
 -- a byte, where no number ends before it
 abbrev pub stepped : ℕ → State → ℕ → Result State Fault
-stepped i st b = carried (moved st.mode (surroundings (kinds st.top st.below) st.values) i b) st
+stepped i st b = carried (moved st.mode (surroundings i (kinds st.top st.below) st.values) b) st
 
 -- what the byte b at i does
 abbrev pub step : ℕ → State → ℕ → Result State Fault

@@ -15,21 +15,22 @@ pub enum Fault {
     Crowded(usize),
 }
 
-#[derive(Clone, Copy, PartialEq, Eq, Debug)]
+#[derive(Clone, Copy, PartialEq, Eq, Default, Debug)]
 pub enum Container {
+    #[default]
     List,
     Object,
 }
 
 // What a string is for.
-#[derive(Clone, Copy)]
+#[derive(Clone, Copy, PartialEq, Eq, Debug)]
 pub enum Role {
     Key,
     Value,
 }
 
 // What is to come of a UTF-8 sequence; its second byte depends on the first.
-#[derive(Clone, Copy)]
+#[derive(Clone, Copy, PartialEq, Eq, Debug)]
 pub enum Tail {
     One,
     Two,
@@ -38,7 +39,7 @@ pub enum Tail {
 }
 
 // The values of the hexadecimal digits so far.
-#[derive(Clone, Copy)]
+#[derive(Clone, Copy, PartialEq, Eq, Debug)]
 pub enum Hex {
     Zero,
     One(u8),
@@ -47,7 +48,7 @@ pub enum Hex {
 }
 
 // Where in a string: between characters, or inside one.
-#[derive(Clone, Copy)]
+#[derive(Clone, Copy, PartialEq, Eq, Debug)]
 pub enum Inside {
     Plain,
     Raw(Tail),
@@ -58,16 +59,22 @@ pub enum Inside {
     Low(u32, Hex),
 }
 
-// What a byte adds to a string's text.
-#[derive(Clone, Copy)]
+// What is added to a string's text.
+#[derive(Clone, Copy, PartialEq, Eq, Debug)]
 pub enum Piece {
-    Nothing,
     Byte(u8),
-    Char(u32),
+    Char(char),
+}
+
+// What a byte of a string does: where it leads, and what it adds to the text.
+#[derive(Clone, Copy, PartialEq, Eq, Debug)]
+pub struct Spelled {
+    pub at: Inside,
+    pub piece: Option<Piece>,
 }
 
 // The letters of a literal so far.
-#[derive(Clone, Copy)]
+#[derive(Clone, Copy, PartialEq, Eq, Debug)]
 pub enum Word {
     N,
     Nu,
@@ -82,25 +89,24 @@ pub enum Word {
 }
 
 // The parts of a number so far: its sign and digits, and what follows a point or an exponent's letter.
-#[derive(Clone, Copy)]
+#[derive(Clone, Copy, PartialEq, Eq, Debug)]
 pub enum Figures {
     Minus,
-    Whole(bool, u64),
+    Whole { minus: bool, size: u64 },
     Point,
     Power,
     Sign,
 }
 
-// What a byte does to a number.
-#[derive(Clone, Copy)]
-pub enum Verdict {
-    Goes(Figures),
+// Why a byte does not go on with a number: it is then known not to fit, or the byte is none of a number.
+#[derive(Clone, Copy, PartialEq, Eq, Debug)]
+pub enum NumberError {
     Unfit,
-    Breaks,
+    Broken,
 }
 
 // What may come next; a number has the place of its first byte.
-#[derive(Clone, Copy)]
+#[derive(Clone, Copy, PartialEq, Eq, Debug)]
 pub enum Mode {
     Want,
     First,
@@ -114,24 +120,28 @@ pub enum Mode {
 }
 
 // What a byte does to what is built. A literal or a text begins at `Begin`, a list or an object at its bracket.
-#[derive(Clone, Copy)]
+#[derive(Clone, Copy, PartialEq, Eq, Debug)]
 pub enum Act {
     Stay,
     Begin,
-    OpenList,
-    OpenObject,
+    Open(Container),
     Close,
-    Byte(u8),
-    Char(u32),
+    Add(Piece),
     Key,
     Text,
     Null,
-    True,
-    False,
+    Bool(bool),
+}
+
+// What may come behind a byte, and what the byte does.
+#[derive(Clone, Copy, PartialEq, Eq, Debug)]
+pub struct Move {
+    pub mode: Mode,
+    pub act: Act,
 }
 
 // An integer by its sign and size, and the place of its first byte.
-#[derive(Clone, Copy)]
+#[derive(Clone, Copy, PartialEq, Eq, Debug)]
 pub struct Numeral {
     pub minus: bool,
     pub size: u64,
@@ -145,16 +155,18 @@ pub enum Number {
     Uint(u64),
 }
 
-// What is open around a byte, and how many values have begun (a number counts when it ends).
-#[derive(Clone, Copy)]
+// What stands around a byte: the bytes before it, the containers that are open, and the values that have begun
+// (a number counts when it ends).
+#[derive(Clone, Copy, PartialEq, Eq, Debug)]
 pub struct Around {
+    pub place: usize,
     pub inner: Option<Container>,
     pub depth: usize,
     pub values: usize,
 }
 
 // What stands once a number that ends has been taken.
-#[derive(Clone, Copy)]
+#[derive(Clone, Copy, PartialEq, Eq, Debug)]
 pub struct Ready {
     pub mode: Mode,
     pub values: usize,
@@ -162,7 +174,7 @@ pub struct Ready {
 }
 
 // The number that ended before a byte, if one did, and what the byte does.
-#[derive(Clone, Copy)]
+#[derive(Clone, Copy, PartialEq, Eq, Debug)]
 pub struct Step {
     pub number: Option<Numeral>,
     pub act: Act,

@@ -1,10 +1,11 @@
 // What a byte does in each mode.
 ghost use Rattle.json_scanner.specs.Grammar.{white};
-ghost use Rattle.json_scanner.specs.Bytes.{act_of, begun, beginning, broken_off, closing, followed, judged, keyed, letter, moved, noted, opening, quoted, spelling};
+ghost use Rattle.json_scanner.specs.Bytes.{begun, beginning, broken_off, closing, followed, judged, keyed, leads, letter, moved, noted, opening, quoted, spelling};
 ghost use Rattle.std.specs.Prelude.{◌≡◌};
 
 use super::modes::{
-    Act, Around, Container, DEPTH, Fault, Figures, Inside, Mode, Piece, Role, VALUES, Verdict, Word,
+    Act, Around, Container, DEPTH, Fault, Figures, Inside, Mode, Move, NumberError, Role, Spelled,
+    VALUES, Word,
 };
 use super::number::figure_move;
 use super::text::spell;
@@ -12,100 +13,14 @@ use super::text::spell;
 fn is_white(b: u8) -> bool
     ensures { result ≡ white b }
 {
-    b == b' ' || b == b'\t' || b == b'\n' || b == b'\r'
+    matches!(b, b' ' | b'\t' | b'\n' | b'\r')
 }
 
-// A list or an object opens.
-fn open_container(around: Around, i: usize, mode: Mode, act: Act) -> Result<(Mode, Act), Fault>
-    ensures { result ≡ opening around i mode act }
-{
-    if around.depth >= DEPTH {
-        Err(Fault::Nested(i))
-    } else if around.values >= VALUES {
-        Err(Fault::Crowded(i))
-    } else {
-        Ok((mode, act))
-    }
-}
-
-// A literal or a text begins.
-fn begin_scalar(around: Around, i: usize, mode: Mode) -> Result<(Mode, Act), Fault>
-    ensures { result ≡ beginning around i mode }
-{
-    if around.values >= VALUES {
-        Err(Fault::Crowded(i))
-    } else {
-        Ok((mode, Act::Begin))
-    }
-}
-
-// Where a value is wanted.
-fn begin(stay: Mode, around: Around, i: usize, b: u8) -> Result<(Mode, Act), Fault>
-    ensures { result ≡ begun stay around i b }
-{
-    if is_white(b) {
-        Ok((stay, Act::Stay))
-    } else if b == b'[' {
-        open_container(around, i, Mode::First, Act::OpenList)
-    } else if b == b'{' {
-        open_container(around, i, Mode::FirstKey, Act::OpenObject)
-    } else if b == b'-' {
-        Ok((Mode::Number(Figures::Minus, i), Act::Stay))
-    } else if b.is_ascii_digit() {
-        Ok((
-            Mode::Number(Figures::Whole(false, (b - b'0') as u64), i),
-            Act::Stay,
-        ))
-    } else if b == b'"' {
-        begin_scalar(around, i, Mode::Text(Role::Value, Inside::Plain))
-    } else if b == b'n' {
-        begin_scalar(around, i, Mode::Word(Word::N))
-    } else if b == b't' {
-        begin_scalar(around, i, Mode::Word(Word::T))
-    } else if b == b'f' {
-        begin_scalar(around, i, Mode::Word(Word::F))
-    } else {
-        Err(Fault::Malformed(i))
-    }
-}
-
-// Where a key is wanted.
-fn begin_key(stay: Mode, i: usize, b: u8) -> Result<(Mode, Act), Fault>
-    ensures { result ≡ keyed stay i b }
-{
-    if is_white(b) {
-        Ok((stay, Act::Stay))
-    } else if b == b'"' {
-        Ok((Mode::Text(Role::Key, Inside::Plain), Act::Stay))
-    } else {
-        Err(Fault::Malformed(i))
-    }
-}
-
-// Behind a value.
-fn follow_value(inner: Option<Container>, i: usize, b: u8) -> Result<(Mode, Act), Fault>
-    ensures { result ≡ followed inner i b }
-{
-    match inner {
-        None => Err(Fault::Malformed(i)),
-        Some(Container::List) => {
-            if b == b',' {
-                Ok((Mode::Want, Act::Stay))
-            } else if b == b']' {
-                Ok((Mode::After, Act::Close))
-            } else {
-                Err(Fault::Malformed(i))
-            }
-        }
-        Some(Container::Object) => {
-            if b == b',' {
-                Ok((Mode::NextKey, Act::Stay))
-            } else if b == b'}' {
-                Ok((Mode::After, Act::Close))
-            } else {
-                Err(Fault::Malformed(i))
-            }
-        }
+impl Move {
+    fn to(mode: Mode, act: Act) -> Move
+        ensures { result ≡ leads mode act }
+    {
+        Move { mode, act }
     }
 }
 
@@ -123,104 +38,163 @@ fn next_letter(word: Word) -> u8
 }
 
 // What the next letter of a literal does.
-fn spell_word(word: Word) -> (Mode, Act)
+fn spell_word(word: Word) -> Move
     ensures { result ≡ spelling word }
 {
     match word {
-        Word::N => (Mode::Word(Word::Nu), Act::Stay),
-        Word::Nu => (Mode::Word(Word::Nul), Act::Stay),
-        Word::Nul => (Mode::After, Act::Null),
-        Word::T => (Mode::Word(Word::Tr), Act::Stay),
-        Word::Tr => (Mode::Word(Word::Tru), Act::Stay),
-        Word::Tru => (Mode::After, Act::True),
-        Word::F => (Mode::Word(Word::Fa), Act::Stay),
-        Word::Fa => (Mode::Word(Word::Fal), Act::Stay),
-        Word::Fal => (Mode::Word(Word::Fals), Act::Stay),
-        Word::Fals => (Mode::After, Act::False),
-    }
-}
-
-// The fault of a number that breaks off at i: that it is one value too many comes first.
-pub fn broken_number(values: usize, from: usize, i: usize) -> Fault
-    ensures { result ≡ broken_off values from i }
-{
-    if values >= VALUES {
-        Fault::Crowded(from)
-    } else {
-        Fault::Malformed(i)
-    }
-}
-
-// A byte of a number.
-fn judge(verdict: Verdict, values: usize, from: usize, i: usize) -> Result<(Mode, Act), Fault>
-    ensures { result ≡ judged verdict values from i }
-{
-    match verdict {
-        Verdict::Goes(part) => Ok((Mode::Number(part, from), Act::Stay)),
-        Verdict::Unfit => Err(Fault::Number(from)),
-        Verdict::Breaks => Err(broken_number(values, from, i)),
-    }
-}
-
-fn piece_act(piece: Piece) -> Act
-    ensures { result ≡ act_of piece }
-{
-    match piece {
-        Piece::Nothing => Act::Stay,
-        Piece::Byte(b) => Act::Byte(b),
-        Piece::Char(c) => Act::Char(c),
+        Word::N => Move::to(Mode::Word(Word::Nu), Act::Stay),
+        Word::Nu => Move::to(Mode::Word(Word::Nul), Act::Stay),
+        Word::Nul => Move::to(Mode::After, Act::Null),
+        Word::T => Move::to(Mode::Word(Word::Tr), Act::Stay),
+        Word::Tr => Move::to(Mode::Word(Word::Tru), Act::Stay),
+        Word::Tru => Move::to(Mode::After, Act::Bool(true)),
+        Word::F => Move::to(Mode::Word(Word::Fa), Act::Stay),
+        Word::Fa => Move::to(Mode::Word(Word::Fal), Act::Stay),
+        Word::Fal => Move::to(Mode::Word(Word::Fals), Act::Stay),
+        Word::Fals => Move::to(Mode::After, Act::Bool(false)),
     }
 }
 
 fn is_closing(at: Inside, b: u8) -> bool
     ensures { result ≡ closing at b }
 {
-    match at {
-        Inside::Plain => b == b'"',
-        _ => false,
-    }
+    matches!((at, b), (Inside::Plain, b'"'))
 }
 
 // The end of a string.
-fn close_quote(role: Role) -> (Mode, Act)
+fn close_quote(role: Role) -> Move
     ensures { result ≡ quoted role }
 {
     match role {
-        Role::Key => (Mode::Colon, Act::Key),
-        Role::Value => (Mode::After, Act::Text),
+        Role::Key => Move::to(Mode::Colon, Act::Key),
+        Role::Value => Move::to(Mode::After, Act::Text),
     }
 }
 
-// A byte of a string, where `spelled` says what it does.
-fn note(role: Role, spelled: Option<(Inside, Piece)>, i: usize) -> Result<(Mode, Act), Fault>
-    ensures { result ≡ noted role spelled i }
-{
-    match spelled {
-        Some((next, piece)) => Ok((Mode::Text(role, next), piece_act(piece))),
-        None => Err(Fault::Malformed(i)),
+impl Around {
+    // A list or an object opens.
+    fn open(self, mode: Mode, container: Container) -> Result<Move, Fault>
+        ensures { result ≡ opening self mode container }
+    {
+        if self.depth >= DEPTH {
+            Err(Fault::Nested(self.place))
+        } else if self.values >= VALUES {
+            Err(Fault::Crowded(self.place))
+        } else {
+            Ok(Move::to(mode, Act::Open(container)))
+        }
     }
-}
 
-// What the byte b at i does.
-pub fn one_move(mode: Mode, around: Around, i: usize, b: u8) -> Result<(Mode, Act), Fault>
-    ensures { result ≡ moved mode around i b }
-{
-    match mode {
-        Mode::Want => begin(Mode::Want, around, i, b),
-        Mode::First if b == b']' => Ok((Mode::After, Act::Close)),
-        Mode::First => begin(Mode::First, around, i, b),
-        Mode::FirstKey if b == b'}' => Ok((Mode::After, Act::Close)),
-        Mode::FirstKey => begin_key(Mode::FirstKey, i, b),
-        Mode::NextKey => begin_key(Mode::NextKey, i, b),
-        Mode::Colon if is_white(b) => Ok((Mode::Colon, Act::Stay)),
-        Mode::Colon if b == b':' => Ok((Mode::Want, Act::Stay)),
-        Mode::Colon => Err(Fault::Malformed(i)),
-        Mode::After if is_white(b) => Ok((Mode::After, Act::Stay)),
-        Mode::After => follow_value(around.inner, i, b),
-        Mode::Word(word) if b == next_letter(word) => Ok(spell_word(word)),
-        Mode::Word(_) => Err(Fault::Malformed(i)),
-        Mode::Number(part, from) => judge(figure_move(part, b), around.values, from, i),
-        Mode::Text(role, at) if is_closing(at, b) => Ok(close_quote(role)),
-        Mode::Text(role, at) => note(role, spell(at, b), i),
+    // A literal or a text begins.
+    fn begin_scalar(self, mode: Mode) -> Result<Move, Fault>
+        ensures { result ≡ beginning self mode }
+    {
+        if self.values >= VALUES {
+            Err(Fault::Crowded(self.place))
+        } else {
+            Ok(Move::to(mode, Act::Begin))
+        }
+    }
+
+    // Where a value is wanted.
+    fn begin(self, stay: Mode, b: u8) -> Result<Move, Fault>
+        ensures { result ≡ begun stay self b }
+    {
+        match b {
+            _ if is_white(b) => Ok(Move::to(stay, Act::Stay)),
+            b'[' => self.open(Mode::First, Container::List),
+            b'{' => self.open(Mode::FirstKey, Container::Object),
+            b'-' => Ok(Move::to(Mode::Number(Figures::Minus, self.place), Act::Stay)),
+            b'0'..=b'9' => {
+                let size = u64::from(b - b'0');
+                let figures = Figures::Whole { minus: false, size };
+                Ok(Move::to(Mode::Number(figures, self.place), Act::Stay))
+            }
+            b'"' => self.begin_scalar(Mode::Text(Role::Value, Inside::Plain)),
+            b'n' => self.begin_scalar(Mode::Word(Word::N)),
+            b't' => self.begin_scalar(Mode::Word(Word::T)),
+            b'f' => self.begin_scalar(Mode::Word(Word::F)),
+            _ => Err(Fault::Malformed(self.place)),
+        }
+    }
+
+    // Where a key is wanted.
+    fn begin_key(self, stay: Mode, b: u8) -> Result<Move, Fault>
+        ensures { result ≡ keyed stay self.place b }
+    {
+        match b {
+            _ if is_white(b) => Ok(Move::to(stay, Act::Stay)),
+            b'"' => Ok(Move::to(Mode::Text(Role::Key, Inside::Plain), Act::Stay)),
+            _ => Err(Fault::Malformed(self.place)),
+        }
+    }
+
+    // Behind a value.
+    fn follow_value(self, b: u8) -> Result<Move, Fault>
+        ensures { result ≡ followed self.inner self.place b }
+    {
+        match (self.inner, b) {
+            (Some(Container::List), b',') => Ok(Move::to(Mode::Want, Act::Stay)),
+            (Some(Container::Object), b',') => Ok(Move::to(Mode::NextKey, Act::Stay)),
+            (Some(Container::List), b']') | (Some(Container::Object), b'}') => Ok(Move::to(
+                Mode::After,
+                Act::Close,
+            )),
+            _ => Err(Fault::Malformed(self.place)),
+        }
+    }
+
+    // A number that began at `from` breaks off: that it is one value too many comes first.
+    pub(crate) fn broken_number(self, from: usize) -> Fault
+        ensures { result ≡ broken_off self.values from self.place }
+    {
+        if self.values >= VALUES {
+            Fault::Crowded(from)
+        } else {
+            Fault::Malformed(self.place)
+        }
+    }
+
+    // A byte of a number that began at `from`.
+    fn judge(self, figures: Result<Figures, NumberError>, from: usize) -> Result<Move, Fault>
+        ensures { result ≡ judged figures self.values from self.place }
+    {
+        match figures {
+            Ok(figures) => Ok(Move::to(Mode::Number(figures, from), Act::Stay)),
+            Err(NumberError::Unfit) => Err(Fault::Number(from)),
+            Err(NumberError::Broken) => Err(self.broken_number(from)),
+        }
+    }
+
+    // A byte of a string, where `spelled` says what it does.
+    fn note(self, role: Role, spelled: Option<Spelled>) -> Result<Move, Fault>
+        ensures { result ≡ noted role spelled self.place }
+    {
+        let spelled = spelled.ok_or(Fault::Malformed(self.place))?;
+        let act = spelled.piece.map_or(Act::Stay, Act::Add);
+        Ok(Move::to(Mode::Text(role, spelled.at), act))
+    }
+
+    // What the byte b does.
+    pub(crate) fn one_move(self, mode: Mode, b: u8) -> Result<Move, Fault>
+        ensures { result ≡ moved mode self b }
+    {
+        match mode {
+            Mode::Want => self.begin(Mode::Want, b),
+            Mode::First if b == b']' => Ok(Move::to(Mode::After, Act::Close)),
+            Mode::First => self.begin(Mode::First, b),
+            Mode::FirstKey if b == b'}' => Ok(Move::to(Mode::After, Act::Close)),
+            Mode::FirstKey => self.begin_key(Mode::FirstKey, b),
+            Mode::NextKey => self.begin_key(Mode::NextKey, b),
+            Mode::Colon if is_white(b) => Ok(Move::to(Mode::Colon, Act::Stay)),
+            Mode::Colon if b == b':' => Ok(Move::to(Mode::Want, Act::Stay)),
+            Mode::After if is_white(b) => Ok(Move::to(Mode::After, Act::Stay)),
+            Mode::After => self.follow_value(b),
+            Mode::Word(word) if b == next_letter(word) => Ok(spell_word(word)),
+            Mode::Colon | Mode::Word(_) => Err(Fault::Malformed(self.place)),
+            Mode::Number(figures, from) => self.judge(figure_move(figures, b), from),
+            Mode::Text(role, at) if is_closing(at, b) => Ok(close_quote(role)),
+            Mode::Text(role, at) => self.note(role, spell(at, b)),
+        }
     }
 }

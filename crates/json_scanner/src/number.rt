@@ -1,9 +1,9 @@
 // The digits of a number, and its end.
 ghost use Rattle.std.specs.Prelude.{◌≡◌, ◌<◌};
-ghost use Rattle.json_scanner.specs.Grammar.{power, sign};
-ghost use Rattle.json_scanner.specs.Bytes.{figure, figured, grown, settled, valued};
+ghost use Rattle.json_scanner.specs.Grammar.{power};
+ghost use Rattle.json_scanner.specs.Bytes.{figure, figured, grown, readied, settled, still, valued};
 
-use super::modes::{Fault, Figures, Mode, Number, Numeral, Ready, VALUES, Verdict};
+use super::modes::{Fault, Figures, Mode, Number, NumberError, Numeral, Ready, VALUES};
 
 fn is_power(b: u8) -> bool
     ensures { result ≡ power b }
@@ -11,79 +11,63 @@ fn is_power(b: u8) -> bool
     b == b'e' || b == b'E'
 }
 
-fn is_sign(b: u8) -> bool
-    ensures { result ≡ sign b }
-{
-    b == b'+' || b == b'-'
-}
-
 // A byte with which an integer may go on.
-pub fn is_figure(b: u8) -> bool
+fn is_figure(b: u8) -> bool
     ensures { result ≡ figure b }
 {
     b.is_ascii_digit() || b == b'.' || is_power(b)
 }
 
 // One more digit of an integer: from -2^63 to 2^64 - 1.
-fn grow(minus: bool, n: u64, d: u8) -> Verdict
+fn grow(minus: bool, size: u64, d: u8) -> Result<Figures, NumberError>
     requires { d < 10 }
-    ensures { result ≡ grown minus n d }
+    ensures { result ≡ grown minus size d }
 {
-    if n == 0 {
-        return Verdict::Breaks;
+    if size == 0 {
+        return Err(NumberError::Broken);
     }
-    let more = n as u128 * 10 + d as u128;
+    let more = u128::from(size) * 10 + u128::from(d);
     let limit = if minus {
         0x8000_0000_0000_0001
     } else {
         0x1_0000_0000_0000_0000
     };
     if more >= limit {
-        Verdict::Unfit
+        Err(NumberError::Unfit)
     } else {
-        Verdict::Goes(Figures::Whole(minus, more as u64))
+        Ok(Figures::Whole {
+            minus,
+            size: more as u64,
+        })
     }
 }
 
 // A byte of a number. A number that is known not to fit stays so.
-pub fn figure_move(part: Figures, b: u8) -> Verdict
+pub fn figure_move(part: Figures, b: u8) -> Result<Figures, NumberError>
     ensures { result ≡ figured part b }
 {
-    match part {
-        Figures::Minus => {
-            if b == b'0' {
-                Verdict::Unfit
-            } else if b.is_ascii_digit() {
-                Verdict::Goes(Figures::Whole(true, (b - b'0') as u64))
-            } else {
-                Verdict::Breaks
-            }
-        }
-        Figures::Whole(minus, n) => {
-            if b == b'.' {
-                Verdict::Goes(Figures::Point)
-            } else if is_power(b) {
-                Verdict::Goes(Figures::Power)
-            } else if b.is_ascii_digit() {
-                grow(minus, n, b - b'0')
-            } else {
-                Verdict::Breaks
-            }
-        }
-        Figures::Point | Figures::Sign => if b.is_ascii_digit() {
-            Verdict::Unfit
-        } else {
-            Verdict::Breaks
-        },
-        Figures::Power => {
-            if b.is_ascii_digit() {
-                Verdict::Unfit
-            } else if is_sign(b) {
-                Verdict::Goes(Figures::Sign)
-            } else {
-                Verdict::Breaks
-            }
-        }
+    match (part, b) {
+        (Figures::Minus, b'1'..=b'9') => Ok(Figures::Whole {
+            minus: true,
+            size: u64::from(b - b'0'),
+        }),
+        (Figures::Whole { .. }, b'.') => Ok(Figures::Point),
+        (Figures::Whole { .. }, b'e' | b'E') => Ok(Figures::Power),
+        (Figures::Whole { minus, size }, b'0'..=b'9') => grow(minus, size, b - b'0'),
+        (Figures::Power, b'+' | b'-') => Ok(Figures::Sign),
+        (_, b'0'..=b'9') => Err(NumberError::Unfit),
+        _ => Err(NumberError::Broken),
+    }
+}
+
+// No number ends.
+fn stay(mode: Mode, values: usize) -> Ready
+    ensures { result ≡ still mode values }
+{
+    Ready {
+        mode,
+        values,
+        number: None,
     }
 }
 
@@ -91,44 +75,40 @@ pub fn figure_move(part: Figures, b: u8) -> Verdict
 pub fn settle(mode: Mode, values: usize) -> Result<Ready, Fault>
     ensures { result ≡ settled mode values }
 {
-    match mode {
-        Mode::Number(Figures::Whole(minus, size), place) => {
-            if values >= VALUES {
-                Err(Fault::Crowded(place))
-            } else {
-                Ok(Ready {
-                    mode: Mode::After,
-                    values: values + 1,
-                    number: Some(Numeral { minus, size, place }),
-                })
-            }
-        }
-        _ => Ok(Ready {
-            mode,
-            values,
-            number: None,
-        }),
+    let Mode::Number(Figures::Whole { minus, size }, place) = mode else {
+        return Ok(stay(mode, values));
+    };
+    if values >= VALUES {
+        return Err(Fault::Crowded(place));
+    }
+    Ok(Ready {
+        mode: Mode::After,
+        values: values + 1,
+        number: Some(Numeral { minus, size, place }),
+    })
+}
+
+// An integer ends before a byte that is no part of it.
+pub fn make_ready(mode: Mode, values: usize, b: u8) -> Result<Ready, Fault>
+    ensures { result ≡ readied b mode values }
+{
+    if is_figure(b) {
+        Ok(stay(mode, values))
+    } else {
+        settle(mode, values)
     }
 }
 
-impl Numeral {
+impl From<Numeral> for Number {
+    ghost from_gives = { λ k n. n ≡ valued k.minus k.size };
+
     // An int where it fits, else a uint. None is below -2^63.
-    pub fn value(self) -> Number
-        ensures { result ≡ valued self.minus self.size }
-    {
-        let size = self.size;
-        if size >= 0x8000_0000_0000_0000 {
-            return if self.minus {
-                Number::Int(i64::MIN)
-            } else {
-                Number::Uint(size)
-            };
-        }
-        let n = size as i64;
-        if self.minus {
-            Number::Int(-n)
-        } else {
-            Number::Int(n)
+    fn from(numeral: Numeral) -> Number {
+        match (i64::try_from(numeral.size), numeral.minus) {
+            (Ok(n), false) => Number::Int(n),
+            (Ok(n), true) => Number::Int(-n),
+            (Err(_), false) => Number::Uint(numeral.size),
+            (Err(_), true) => Number::Int(i64::MIN),
         }
     }
 }

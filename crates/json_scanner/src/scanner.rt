@@ -1,35 +1,29 @@
 // The scanner: a byte at a time, from the first to the end of a text.
-ghost use Rattle.json_scanner.specs.Holds.{Counts, held};
-ghost use Rattle.json_scanner.specs.Bytes.{readied};
-ghost use Rattle.json_scanner.specs.Machine.{counted, finish, fresh, left_with, settled_end, turned};
-ghost use Rattle.std.specs.Prelude.{◌≡◌};
+ghost use Rattle.json_scanner.specs.Holds.{Counts, Room};
+ghost use Rattle.json_scanner.specs.Machine.{arranged, counted, finish, fresh, left_with, settled_end, surroundings, turned};
+ghost use Rattle.std.specs.Prelude.{◌≡◌, reverse};
+ghost use Rattle.arrayvec.specs.ArrayVec.{array_vec_len};
 
-use super::modes::{Act, Container, Fault, Mode, Numeral, Ready, Step};
-use super::moves::{broken_number, one_move};
-use super::number::{is_figure, settle};
-use super::stack::Stack;
+use super::modes::{Act, Around, Container, DEPTH, Fault, Mode, Numeral, Ready, Step};
+use super::number::{make_ready, settle};
+use arrayvec::ArrayVec;
+use std::marker::Model;
 
-// What may come next, what is open, and how many values have begun.
-#[derive(Clone, Copy)]
+// What may come next, the containers that are open with the innermost last, and how many values have begun.
+#[derive(Drop)]
 pub struct Scanner {
     mode: Mode,
-    stack: Stack,
+    containers: ArrayVec<Container, DEPTH>,
     values: usize,
 }
 
-// An integer ends before a byte that is no part of it.
-fn make_ready(mode: Mode, values: usize, b: u8) -> Result<Ready, Fault>
-    ensures { result ≡ readied b mode values }
-{
-    if is_figure(b) {
-        Ok(Ready {
-            mode,
-            values,
-            number: None,
-        })
-    } else {
-        settle(mode, values)
-    }
+impl Model for Scanner {
+    ghost use Rattle.std.specs.Prelude.{reverse};
+    ghost use Rattle.json_scanner.specs.Machine.{Control};
+
+    ghost Value = { Control };
+
+    ghost view = { λ s. record { mode = s.mode; around = reverse s.containers.items; values = s.values } };
 }
 
 // The number of values after an act.
@@ -38,65 +32,81 @@ fn count(act: Act, values: usize) -> usize
     ensures { result ≡ counted act values }
 {
     match act {
-        Act::Begin | Act::OpenList | Act::OpenObject => values + 1,
+        Act::Begin | Act::Open(_) => values + 1,
         _ => values,
     }
 }
 
-// The end of the text, at i: a value has ended, and nothing is open.
-fn end(
-    mode: Mode,
-    inner: Option<Container>,
-    values: usize,
-    number: Option<Numeral>,
-    i: usize,
-) -> Result<Option<Numeral>, Fault>
-    ensures { result ≡ settled_end i mode inner values number }
+// What an act opens and closes.
+fn arrange(containers: &mut ArrayVec<Container, DEPTH>, act: Act)
+    requires { Room act (array_vec_len containers.old) }
+    ensures { reverse containers.new.items ≡ arranged act (reverse containers.old.items) }
 {
-    match mode {
-        Mode::After => match inner {
-            None => Ok(number),
-            Some(_) => Err(Fault::Malformed(i)),
-        },
-        Mode::Number(_, from) => Err(broken_number(values, from, i)),
-        _ => Err(Fault::Malformed(i)),
+    match act {
+        Act::Open(container) => containers.push(container),
+        Act::Close => {
+            let _ = containers.pop();
+        }
+        _ => {}
+    }
+}
+
+// What stands around a byte.
+fn around(containers: &ArrayVec<Container, DEPTH>, place: usize, values: usize) -> Around
+    ensures { result ≡ surroundings place (reverse containers.now.items) values }
+{
+    Around {
+        place,
+        inner: containers.last().copied(),
+        depth: containers.len(),
+        values,
+    }
+}
+
+// The end of the text: a value has ended, and nothing is open.
+fn end(ready: Ready, around: Around) -> Result<Option<Numeral>, Fault>
+    ensures { result ≡ settled_end around.place ready.mode around.inner around.values ready.number }
+{
+    match (ready.mode, around.inner) {
+        (Mode::After, None) => Ok(ready.number),
+        (Mode::Number(_, from), _) => Err(around.broken_number(from)),
+        _ => Err(Fault::Malformed(around.place)),
     }
 }
 
 impl Scanner {
     // Before the first byte.
     pub fn new() -> Scanner
-        ensures { held result ≡ fresh }
+        ensures { result ≡ fresh }
     {
         Scanner {
             mode: Mode::Want,
-            stack: Stack::new(),
+            containers: ArrayVec::new(),
             values: 0,
         }
     }
 
     // The byte b at `place`: the number that ended before it, and what it does. At a fault all stays as it was.
     pub fn step(&mut self, place: usize, b: u8) -> Result<Step, Fault>
-        ensures { (held self.new, result) ≡ left_with (held self.old) (turned place (held self.old) b) }
+        ensures { (self.new, result) ≡ left_with self.old (turned place self.old b) }
     {
         let ready = make_ready(self.mode, self.values, b)?;
-        let around = self.stack.around(ready.values);
-        let (mode, act) = one_move(ready.mode, around, place, b)?;
-        self.stack.arrange(act);
-        self.values = count(act, ready.values);
-        self.mode = mode;
+        let around = around(&self.containers, place, ready.values);
+        let next = around.one_move(ready.mode, b)?;
+        arrange(&mut self.containers, next.act);
+        self.values = count(next.act, ready.values);
+        self.mode = next.mode;
         Ok(Step {
             number: ready.number,
-            act,
+            act: next.act,
         })
     }
 
     // The end of a text of `len` bytes: the number that ended there, if one did.
     pub fn finish(&self, len: usize) -> Result<Option<Numeral>, Fault>
-        ensures { result ≡ finish len (held self.now) }
+        ensures { result ≡ finish len self.now }
     {
         let ready = settle(self.mode, self.values)?;
-        let around = self.stack.around(ready.values);
-        end(ready.mode, around.inner, ready.values, ready.number, len)
+        end(ready, around(&self.containers, len, ready.values))
     }
 }

@@ -1,9 +1,25 @@
 // Inside a string: characters in UTF-8, and escapes.
-ghost use Rattle.json_scanner.specs.Grammar.{hex, hexed, pair, plain, second, simple, tail, unit};
-ghost use Rattle.json_scanner.specs.Bytes.{escaped, led, paired, spelled, tailed, united};
-ghost use Rattle.std.specs.Prelude.{◌≡◌, true};
+ghost use Rattle.json_scanner.specs.Grammar.{pair, plain, second, simple, tail, unit};
+ghost use Rattle.json_scanner.specs.Bytes.{digit_of, escaped, led, paired, spelled, spells, tailed, united};
+ghost use Rattle.std.specs.Prelude.{◌≡◌, Some, None};
 
-use super::modes::{Hex, Inside, Piece, Tail};
+use super::modes::{Hex, Inside, Piece, Spelled, Tail};
+
+// A byte that leads on, and adds nothing yet.
+fn silent(at: Inside) -> Option<Spelled>
+    ensures { result ≡ spells at None }
+{
+    Some(Spelled { at, piece: None })
+}
+
+fn adding(at: Inside, piece: Piece) -> Option<Spelled>
+    ensures { result ≡ spells at (Some piece) }
+{
+    Some(Spelled {
+        at,
+        piece: Some(piece),
+    })
+}
 
 // A byte that stands for itself.
 fn is_plain(b: u8) -> bool
@@ -22,50 +38,41 @@ fn is_tail(b: u8) -> bool
 fn is_second(a: u8, b: u8) -> bool
     ensures { result ≡ second a b }
 {
-    if a == 0xe0 {
-        b >= 0xa0 && b <= 0xbf
-    } else if a == 0xed {
-        b >= 0x80 && b <= 0x9f
-    } else if a == 0xf0 {
-        b >= 0x90 && b <= 0xbf
-    } else if a == 0xf4 {
-        b >= 0x80 && b <= 0x8f
-    } else {
-        is_tail(b)
+    match a {
+        0xe0 => b >= 0xa0 && b <= 0xbf,
+        0xed => b >= 0x80 && b <= 0x9f,
+        0xf0 => b >= 0x90 && b <= 0xbf,
+        0xf4 => b >= 0x80 && b <= 0x8f,
+        _ => is_tail(b),
     }
 }
 
 // The first byte of a character.
-fn lead(b: u8) -> Option<(Inside, Piece)>
+fn lead(b: u8) -> Option<Spelled>
     ensures { result ≡ led b }
 {
-    if is_plain(b) {
-        Some((Inside::Plain, Piece::Byte(b)))
-    } else if b >= 0xc2 && b <= 0xdf {
-        Some((Inside::Raw(Tail::One), Piece::Byte(b)))
-    } else if b >= 0xe0 && b <= 0xef {
-        Some((Inside::Raw(Tail::SecondOfThree(b)), Piece::Byte(b)))
-    } else if b >= 0xf0 && b <= 0xf4 {
-        Some((Inside::Raw(Tail::SecondOfFour(b)), Piece::Byte(b)))
-    } else if b == b'\\' {
-        Some((Inside::Escape, Piece::Nothing))
-    } else {
-        None
+    match b {
+        _ if is_plain(b) => adding(Inside::Plain, Piece::Byte(b)),
+        0xc2..=0xdf => adding(Inside::Raw(Tail::One), Piece::Byte(b)),
+        0xe0..=0xef => adding(Inside::Raw(Tail::SecondOfThree(b)), Piece::Byte(b)),
+        0xf0..=0xf4 => adding(Inside::Raw(Tail::SecondOfFour(b)), Piece::Byte(b)),
+        b'\\' => silent(Inside::Escape),
+        _ => None,
     }
 }
 
 // A further byte of a UTF-8 sequence.
-fn follow(rest: Tail, b: u8) -> Option<(Inside, Piece)>
+fn follow(rest: Tail, b: u8) -> Option<Spelled>
     ensures { result ≡ tailed rest b }
 {
-    let (fits, next) = match rest {
+    let (fits, at) = match rest {
         Tail::One => (is_tail(b), Inside::Plain),
         Tail::Two => (is_tail(b), Inside::Raw(Tail::One)),
         Tail::SecondOfThree(a) => (is_second(a, b), Inside::Raw(Tail::One)),
         Tail::SecondOfFour(a) => (is_second(a, b), Inside::Raw(Tail::Two)),
     };
     if fits {
-        Some((next, Piece::Byte(b)))
+        adding(at, Piece::Byte(b))
     } else {
         None
     }
@@ -75,162 +82,94 @@ fn follow(rest: Tail, b: u8) -> Option<(Inside, Piece)>
 fn simple_escape(b: u8) -> Option<u8>
     ensures { result ≡ simple b }
 {
-    if b == b'"' {
-        Some(b'"')
-    } else if b == b'\\' {
-        Some(b'\\')
-    } else if b == b'/' {
-        Some(b'/')
-    } else if b == b'b' {
-        Some(8)
-    } else if b == b'f' {
-        Some(12)
-    } else if b == b'n' {
-        Some(10)
-    } else if b == b'r' {
-        Some(13)
-    } else if b == b't' {
-        Some(9)
-    } else {
-        None
+    match b {
+        b'"' | b'\\' | b'/' => Some(b),
+        b'b' => Some(8),
+        b'f' => Some(12),
+        b'n' => Some(b'\n'),
+        b'r' => Some(b'\r'),
+        b't' => Some(b'\t'),
+        _ => None,
     }
 }
 
 // The byte behind a backslash.
-fn escape(b: u8) -> Option<(Inside, Piece)>
+fn escape(b: u8) -> Option<Spelled>
     ensures { result ≡ escaped b }
 {
     match simple_escape(b) {
-        Some(c) => Some((Inside::Plain, Piece::Byte(c))),
-        None => {
-            if b == b'u' {
-                Some((Inside::Unit(Hex::Zero), Piece::Nothing))
-            } else {
-                None
-            }
-        }
+        Some(c) => adding(Inside::Plain, Piece::Byte(c)),
+        None if b == b'u' => silent(Inside::Unit(Hex::Zero)),
+        None => None,
     }
 }
 
-fn is_hex(b: u8) -> bool
-    ensures { result ≡ hex b }
+fn hex_digit(b: u8) -> Option<u8>
+    ensures { result ≡ digit_of b }
 {
-    b.is_ascii_digit() || (b >= b'A' && b <= b'F') || (b >= b'a' && b <= b'f')
-}
-
-fn hex_value(b: u8) -> u8
-    requires { hex b ≡ true }
-    ensures { result ≡ hexed b }
-{
-    if b <= b'9' {
-        b - b'0'
-    } else if b <= b'F' {
-        b - b'A' + 10
-    } else {
-        b - b'a' + 10
-    }
+    char::from(b).to_digit(16).map(|d| d as u8)
 }
 
 fn code_unit(a: u8, b: u8, c: u8, d: u8) -> u32
     ensures { result ≡ unit a b c d }
 {
-    ((a as u32 * 16 + b as u32) * 16 + c as u32) * 16 + d as u32
+    ((u32::from(a) * 16 + u32::from(b)) * 16 + u32::from(c)) * 16 + u32::from(d)
 }
 
-// A digit of a code unit that stands alone, or is a high surrogate: from \ud8 to \udb.
-fn unit_digit(digits: Hex, d: u8) -> Option<(Inside, Piece)>
+// A digit of a code unit that is a character, or a high surrogate: from \ud8 to \udb.
+fn unit_digit(digits: Hex, d: u8) -> Option<Spelled>
     ensures { result ≡ united digits d }
 {
     match digits {
-        Hex::Zero => Some((Inside::Unit(Hex::One(d)), Piece::Nothing)),
-        Hex::One(a) => {
-            if a == 13 && d >= 12 {
-                None
-            } else {
-                Some((Inside::Unit(Hex::Two(a, d)), Piece::Nothing))
-            }
-        }
-        Hex::Two(a, b) => Some((Inside::Unit(Hex::Three(a, b, d)), Piece::Nothing)),
+        Hex::Zero => silent(Inside::Unit(Hex::One(d))),
+        Hex::One(13) if d >= 12 => None,
+        Hex::One(a) => silent(Inside::Unit(Hex::Two(a, d))),
+        Hex::Two(a, b) => silent(Inside::Unit(Hex::Three(a, b, d))),
         Hex::Three(a, b, c) => {
-            let u = code_unit(a, b, c, d);
-            if a == 13 && b >= 8 {
-                Some((Inside::High(u), Piece::Nothing))
-            } else {
-                Some((Inside::Plain, Piece::Char(u)))
+            let unit = code_unit(a, b, c, d);
+            match char::from_u32(unit) {
+                Some(c) => adding(Inside::Plain, Piece::Char(c)),
+                None => silent(Inside::High(unit)),
             }
         }
     }
 }
 
 // The character of a surrogate pair.
-fn joined(high: u32, low: u32) -> u32
+fn joined(high: u32, low: u32) -> char
     ensures { result ≡ pair high low }
 {
-    0x1_0000 + high % 0x400 * 0x400 + low % 0x400
+    char::from_u32(0x1_0000 + high % 0x400 * 0x400 + low % 0x400).unwrap()
 }
 
 // A digit of the low surrogate behind a high one: from \udc to \udf.
-fn low_digit(high: u32, digits: Hex, d: u8) -> Option<(Inside, Piece)>
+fn low_digit(high: u32, digits: Hex, d: u8) -> Option<Spelled>
     ensures { result ≡ paired high digits d }
 {
     match digits {
-        Hex::Zero => {
-            if d == 13 {
-                Some((Inside::Low(high, Hex::One(d)), Piece::Nothing))
-            } else {
-                None
-            }
+        Hex::Zero if d == 13 => silent(Inside::Low(high, Hex::One(d))),
+        Hex::One(a) if d >= 12 => silent(Inside::Low(high, Hex::Two(a, d))),
+        Hex::Zero | Hex::One(_) => None,
+        Hex::Two(a, b) => silent(Inside::Low(high, Hex::Three(a, b, d))),
+        Hex::Three(a, b, c) => {
+            let low = code_unit(a, b, c, d);
+            adding(Inside::Plain, Piece::Char(joined(high, low)))
         }
-        Hex::One(a) => {
-            if d >= 12 {
-                Some((Inside::Low(high, Hex::Two(a, d)), Piece::Nothing))
-            } else {
-                None
-            }
-        }
-        Hex::Two(a, b) => Some((Inside::Low(high, Hex::Three(a, b, d)), Piece::Nothing)),
-        Hex::Three(a, b, c) => Some((
-            Inside::Plain,
-            Piece::Char(joined(high, code_unit(a, b, c, d))),
-        )),
     }
 }
 
 // A byte of a string, but for the quote that ends it: where it leads, and what it adds to the text.
-pub fn spell(at: Inside, b: u8) -> Option<(Inside, Piece)>
+pub fn spell(at: Inside, b: u8) -> Option<Spelled>
     ensures { result ≡ spelled at b }
 {
     match at {
         Inside::Plain => lead(b),
         Inside::Raw(rest) => follow(rest, b),
         Inside::Escape => escape(b),
-        Inside::Unit(digits) => {
-            if is_hex(b) {
-                unit_digit(digits, hex_value(b))
-            } else {
-                None
-            }
-        }
-        Inside::High(high) => {
-            if b == b'\\' {
-                Some((Inside::HighEscape(high), Piece::Nothing))
-            } else {
-                None
-            }
-        }
-        Inside::HighEscape(high) => {
-            if b == b'u' {
-                Some((Inside::Low(high, Hex::Zero), Piece::Nothing))
-            } else {
-                None
-            }
-        }
-        Inside::Low(high, digits) => {
-            if is_hex(b) {
-                low_digit(high, digits, hex_value(b))
-            } else {
-                None
-            }
-        }
+        Inside::Unit(digits) => unit_digit(digits, hex_digit(b)?),
+        Inside::High(high) if b == b'\\' => silent(Inside::HighEscape(high)),
+        Inside::HighEscape(high) if b == b'u' => silent(Inside::Low(high, Hex::Zero)),
+        Inside::High(_) | Inside::HighEscape(_) => None,
+        Inside::Low(high, digits) => low_digit(high, digits, hex_digit(b)?),
     }
 }

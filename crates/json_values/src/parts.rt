@@ -4,15 +4,16 @@ ghost use Rattle.std.specs.Prelude.{◌≡◌, take, drop};
 use fixed::slice::Slice;
 
 // Which text something was read from: each has a store of its own.
-#[derive(Clone, Copy, PartialEq, Eq, Debug)]
+#[derive(Clone, Copy, PartialEq, Eq, Debug, Default)]
 pub enum Source {
+    #[default]
     Schema,
     Record,
     Older,
 }
 
 // A text as a part of the store that holds it.
-#[derive(Clone, Copy, PartialEq, Eq, Debug)]
+#[derive(Clone, Copy, PartialEq, Eq, Debug, Default)]
 pub struct Part {
     pub source: Source,
     pub start: usize,

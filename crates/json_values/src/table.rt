@@ -25,8 +25,9 @@ impl Span {
     }
 }
 
-#[derive(Clone, Copy, PartialEq, Eq, Debug)]
+#[derive(Clone, Copy, PartialEq, Eq, Debug, Default)]
 pub enum Cell {
+    #[default]
     Null,
     Bool(bool),
     Int(i64),
@@ -87,7 +88,7 @@ impl Cell {
 }
 
 // A value, with its key where it is a map's member, and the place of its first byte in the text it was read from.
-#[derive(Clone, Copy, PartialEq, Eq, Debug)]
+#[derive(Clone, Copy, PartialEq, Eq, Debug, Default)]
 pub struct Entry {
     pub key: Part,
     pub place: usize,

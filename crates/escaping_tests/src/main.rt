@@ -1,23 +1,20 @@
 // Reads names, a line each, and prints of each its escape, the escape's length, and how it compares with the escape on the line before.
 #![tactic(auto)]
 
-use anyhow::anyhow;
+use anyhow::Context;
 use escaping::{compare_escaped, escape_field_name, escaped_len};
 use std::alloc::Global;
 use std::cmp::Ordering;
 
 fn escaped(heap: Global, name: &str) -> anyhow::Result<String> {
-    let Some(len) = escaped_len(name.as_bytes()) else {
-        return Err(anyhow!("a name is too long"));
-    };
+    let len = escaped_len(name.as_bytes()).context("a name is too long")?;
     let mut text = vec![in heap; 0u8; len]?;
-    let Ok(_) = escape_field_name(name.as_bytes(), &mut text) else {
-        return Err(anyhow!("a buffer of the escape's length is too short"));
-    };
-    let Ok(line) = String::from_utf8(text) else {
-        return Err(anyhow!("an escape is not text"));
-    };
-    Ok(line)
+    escape_field_name(name.as_bytes(), &mut text)
+        .ok()
+        .context("a buffer of the escape's length is too short")?;
+    String::from_utf8(text)
+        .ok()
+        .context("an escape is not text")
 }
 
 fn sign(order: Ordering) -> &'static str {

@@ -1,20 +1,18 @@
 -- The rest of a text, a step at a time, and that what was there before stays.
 use Rattle.std.proofs.Common.{◌≡◌, ℕ, ◌+◌, ◌<◌, ◌≤◌, min, Bool, true, false, cond, List, [], ◌∷◌, ◌++◌, length, get_or, take, drop, Some, None, Ok, Err, Option, Result, sym, ap, ◌∙◌, arith, length-take}
-use lib.Utf8.{encode, scalar}
 use Rattle.fixed.specs.Listed.{last}
 use Rattle.fixed.specs.Room.{extended, fits}
 use Rattle.json_values.specs.declared.parts.Source.{Source}
 use Rattle.json_values.specs.declared.table.Entry.{Entry}
 use Rattle.json_scanner.specs.Bytes.{then}
-use Rattle.json_scanner.specs.Machine.{Control, turned, left_with, finish}
+use Rattle.json_scanner.specs.Machine.{Control, bytes_of, turned, left_with, finish}
 use Rattle.json_scanner.specs.declared.modes.Act.{Act}
 use Rattle.json_scanner.specs.declared.modes.Act.TheVariants as act
 use Rattle.json_scanner.specs.declared.modes.Container.{Container}
 use Rattle.json_scanner.specs.declared.modes.Container.TheVariants as container
 use Rattle.json_scanner.specs.declared.modes.Fault.{Fault}
 use Rattle.json_scanner.specs.declared.modes.Step.{Step}
-use Rattle.json_reader.specs.Building.{Built, built, building, ended_with, text_after, table_after, closed_table, moved_in}
-use Rattle.json_reader.specs.Notes.{Notes}
+use Rattle.json_reader.specs.Building.{Built, acted, built, building, closed_in, ended_with, moved_in}
 use Rattle.json_reader.specs.Sifted.{added, picked, sifted}
 use Rattle.json_reader.specs.declared.builder.Open.{Open}
 use Rattle.std.proofs.lemmas.List.{at_drop_more, at_drop_all, take-append-le}
@@ -62,47 +60,31 @@ module _ {X : Type 0} (old : List X) where
       either true = take-append-le (length old) xs more (long_enough xs h) ∙ h
       either false = h
 
-pub added_stays : (old : List Entry) (xs es : List Entry) → take (length old) xs ≡ old → take (length old) (added 8192 xs es) ≡ old
+added_stays : (old : List Entry) (xs es : List Entry) → take (length old) xs ≡ old → take (length old) (added 8192 xs es) ≡ old
 unfolding added
 added_stays old xs [] h = h
 added_stays old xs (e ∷ es) h = added_stays old (extended 8192 xs (e ∷ [])) es (extended_stays old 8192 xs (e ∷ []) h)
-
-pub text_stays : (old w : List ℕ) (a : Act) → take (length old) w ≡ old → take (length old) (text_after a w) ≡ old
-text_stays old w act.Stay h = h
-text_stays old w act.Begin h = h
-text_stays old w act.OpenList h = h
-text_stays old w act.OpenObject h = h
-text_stays old w act.Close h = h
-text_stays old w (act.Byte b) h = extended_stays old 65535 w (b ∷ []) h
-text_stays old w (act.Char c) h = either (scalar c)
-  where
-    either : (b : Bool) → take (length old) (cond b (extended 65535 w (encode c)) w) ≡ old
-    either true = extended_stays old 65535 w (encode c) h
-    either false = h
-text_stays old w act.Key h = h
-text_stays old w act.Text h = h
-text_stays old w act.Null h = h
-text_stays old w act.True h = h
-text_stays old w act.False h = h
 
 moved_stays : (old t : List Entry) (k : Container) (w : List ℕ) (ps : List Entry) (first : ℕ) → take (length old) t ≡ old → take (length old) (moved_in k w ps first t) ≡ old
 moved_stays old t container.List w ps first h = extended_stays old 8192 t (drop first ps) h
 moved_stays old t container.Object w ps first h = added_stays old t (picked ps (sifted w ps first)) h
 
-closed_stays : (old t : List Entry) (o : Option Open) (w : List ℕ) (n : Notes) → take (length old) t ≡ old → take (length old) (closed_table o w n t) ≡ old
-closed_stays old t None w n h = h
-closed_stays old t (Some o) w n h = moved_stays old t o.container w n.pending o.first h
+module _ (w : List ℕ) (t : List Entry) where
+  -- a store held w before, and a table t
+  abbrev pub Keeps : Built → Type 0
+  Keeps m = (take (length w) m.text ≡ w) × (take (length t) m.table ≡ t)
 
-pub table_stays : (old t : List Entry) (a : Act) (w : List ℕ) (n : Notes) → take (length old) t ≡ old → take (length old) (table_after a w n t) ≡ old
-table_stays old t act.Stay w n h = h
-table_stays old t act.Begin w n h = h
-table_stays old t act.OpenList w n h = h
-table_stays old t act.OpenObject w n h = h
-table_stays old t act.Close w n h = closed_stays old t (last n.opens) w n h
-table_stays old t (act.Byte b) w n h = h
-table_stays old t (act.Char c) w n h = h
-table_stays old t act.Key w n h = h
-table_stays old t act.Text w n h = h
-table_stays old t act.Null w n h = h
-table_stays old t act.True w n h = h
-table_stays old t act.False w n h = h
+  closed-keeps : (o : Option Open) (m : Built) → Keeps m → Keeps (closed_in o m)
+  closed-keeps None m h = h
+  closed-keeps (Some o) m h = (h.0, moved_stays t m.table o.container m.text m.notes.pending o.first h.1)
+
+  pub acted-keeps : (source : Source) (i : ℕ) (a : Act) (m : Built) → Keeps m → Keeps (acted source i a m)
+  acted-keeps source i act.Stay m h = h
+  acted-keeps source i act.Begin m h = h
+  acted-keeps source i (act.Open c) m h = h
+  acted-keeps source i act.Close m h = closed-keeps (last m.notes.opens) m h
+  acted-keeps source i (act.Add p) m h = (extended_stays w 65535 m.text (bytes_of p) h.0, h.1)
+  acted-keeps source i act.Key m h = h
+  acted-keeps source i act.Text m h = h
+  acted-keeps source i act.Null m h = h
+  acted-keeps source i (act.Bool b) m h = h

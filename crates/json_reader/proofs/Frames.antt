@@ -1,10 +1,11 @@
 -- What the scanner's frames have of rows, and where they may stand.
-use Rattle.std.proofs.Common.{ℕ, ◌<◌, List, [], ◌∷◌, ◌++◌}
+use Rattle.std.proofs.Common.{◌≡◌, ℕ, ◌^◌, ◌≤◌, true, List, [], ◌∷◌, ◌++◌}
 use Rattle.json_values.specs.Meaning.{Row}
 use Rattle.json_scanner.specs.Grammar.{Members}
 use Rattle.json_scanner.specs.Grammar as written
 use Rattle.json_scanner.specs.Machine.{Frame, bare, sole, items, fields, field}
-use Rattle.json_scanner.specs.declared.modes.Hex.{Hex}
+use Rattle.json_scanner.specs.declared.modes.Figures.{Figures}
+use Rattle.json_scanner.specs.declared.modes.Figures.TheVariants as figures
 use Rattle.json_scanner.specs.declared.modes.Hex.TheVariants as hexes
 use Rattle.json_scanner.specs.declared.modes.Inside.{Inside}
 use Rattle.json_scanner.specs.declared.modes.Inside.TheVariants as inside
@@ -103,20 +104,13 @@ Around (g ∷ gs) = Ready g gs × Around gs
 
 -- ---- the modes
 
-abbrev pub Small : Hex → Type 0
-Small hexes.Zero = Unit {0}
-Small (hexes.One a) = a < 16
-Small (hexes.Two a b) = (a < 16) × (b < 16)
-Small (hexes.Three a b c) = (a < 16) × (b < 16) × (c < 16)
-
-abbrev pub Fine : Inside → Type 0
-Fine inside.Plain = Unit {0}
-Fine (inside.Raw t) = Unit {0}
-Fine inside.Escape = Unit {0}
-Fine (inside.Unit h) = Small h
-Fine (inside.High u) = Unit {0}
-Fine (inside.HighEscape u) = Unit {0}
-Fine (inside.Low u h) = Unit {0}
+-- an integer with a sign is not below -2^63
+abbrev pub Sized : Figures → Type 0
+Sized figures.Minus = Unit {0}
+Sized (figures.Whole minus n) = minus ≡ true → n ≤ 2 ^ 63
+Sized figures.Point = Unit {0}
+Sized figures.Power = Unit {0}
+Sized figures.Sign = Unit {0}
 
 abbrev pub Quoting : Role → Frame → List Frame → Type 0
 Quoting role.Key f gs = Keyed f gs
@@ -130,8 +124,8 @@ Fit mode.NextKey f gs = Keyed f gs
 Fit mode.Colon f gs = Named f gs
 Fit mode.After f gs = Done f gs
 Fit (mode.Word w) f gs = Ready f gs
-Fit (mode.Number n from) f gs = Ready f gs
-Fit (mode.Text r x) f gs = Quoting r f gs × Fine x
+Fit (mode.Number n from) f gs = Ready f gs × Sized n
+Fit (mode.Text r x) f gs = Quoting r f gs
 
 -- a value has begun, and is not yet put
 abbrev pub begun_role : Role → ℕ

@@ -1,7 +1,6 @@
 -- What is built follows the scanner's machine, act by act.
-use Rattle.std.proofs.Common.{◌≡◌, ℕ, suc, ◌+◌, ◌-◌, ◌<◌, ◌≤◌, true, false, ltb, List, [], ◌∷◌, ◌++◌, map, reverse, length, get_or, take, drop, Some, Option, sym, refl, ap, ◌∙◌, subst, ⊎_elim, arith}
-use lib.Utf8.{encode, scalar}
-use Rattle.fixed.proofs.Lists.{last_push}
+use Rattle.std.proofs.Common.{◌≡◌, ℕ, suc, ◌+◌, ◌-◌, ◌<◌, ◌≤◌, ltb, List, [], ◌∷◌, ◌++◌, map, reverse, length, get_or, take, drop, Some, Option, sym, refl, ap, ◌∙◌, subst, ⊎_elim, arith}
+use Rattle.std.proofs.Math.Utf8.{encode}
 use Rattle.fixed.specs.Listed.{last}
 use Rattle.fixed.specs.Room.{extended, fits}
 use Rattle.json_values.specs.declared.parts.Part.{Part}
@@ -14,22 +13,25 @@ use Rattle.json_values.specs.Value as value
 use Rattle.json_scanner.specs.Grammar.{Tree, Trees, Members}
 use Rattle.json_scanner.specs.Grammar as written
 use Rattle.json_scanner.specs.Holds.{Room, Counts}
-use Rattle.json_scanner.specs.Machine.{Frame, bare, sole, items, fields, field, kind, kinds, put, naming, wrapped, State, performed, closed}
+use Rattle.json_scanner.specs.Machine.{Frame, bare, sole, items, fields, field, kind, kinds, put, naming, wrapped, State, bytes_of, performed, closed}
 use Rattle.json_scanner.specs.declared.modes.Act.{Act}
 use Rattle.json_scanner.specs.declared.modes.Act.TheVariants as act
 use Rattle.json_scanner.specs.declared.modes.Container.{Container}
 use Rattle.json_scanner.specs.declared.modes.Container.TheVariants as container
+use Rattle.json_scanner.specs.declared.modes.Piece.{Piece}
+use Rattle.json_scanner.specs.declared.modes.Piece.TheVariants as piece
 use Rattle.json_scanner.specs.declared.modes.Mode.{Mode}
 use Rattle.json_scanner.specs.declared.modes.Mode.TheVariants as mode
 use Rattle.json_reader.proofs.Cores.{Over, Reads, Means, Matches, Core, here, over_here, core_text, cut_reads, core_put, core_length, core_depth, core_open, core_name, innermost_open, span_rows, core_close, core_inner}
 use Rattle.json_reader.proofs.Frames.{raw_rows, frame_rows, all_rows, frame_key, Ready, Keyed, Done, Closing, Around, Fit, begun_in, credit}
 use Rattle.json_reader.proofs.Members.{member_kids, members-length}
-use Rattle.json_reader.proofs.Turning.{Goes}
-use Rattle.json_reader.specs.Building.{Built, no_key, valued, opened, notes_after, text_after, table_after, closed_notes, closed_table, moved_in, container_cell}
+use Rattle.json_reader.proofs.Turning.{Goes, piece_size}
+use Rattle.json_reader.specs.Building.{Built, acted, closed_in, no_key, valued, opened, moved_in, container_cell}
 use Rattle.json_reader.specs.Sifted.{key_of, added, picked, sifted}
 use Rattle.json_reader.specs.Values.{value_of, item_rows, member_rows}
 use Rattle.json_reader.specs.declared.builder.Open.{Open}
-use Rattle.std.proofs.lemmas.List.{append_assoc, append-nil, drop-append-le, drop_all, take_at, length-append, length_push, length-map, length-drop, length-take-le, get_or-map, get_or_past}
+use Rattle.std.proofs.lemmas.List.{append_assoc, append-nil, drop-append-le, drop_all, take_at, length-append, length_push, length-map, length-drop, length-take-le, get_or-map, get_or_past, get_or_push}
+use Rattle.std.proofs.lemmas.Option.{slice_get-get_or}
 use Rattle.std.proofs.lemmas.Bool.{cond-true, cond_both, le-leb, cases_lt}
 
 -- a text of which i bytes are read, into a store that held a bytes and a table that held b entries
@@ -43,6 +45,12 @@ pub record Holds (source : Source) (a b i : ℕ) (m : Built) (st : State) : Type
   pub counts : length m.table + length m.notes.pending + length m.notes.opens + begun_in st.mode ≤ b + st.values
   pub few : st.values ≤ 4096
   pub size : length m.text + credit st.mode ≤ a + i
+
+last_push : (os : List Open) (o : Open) → last (os ++ o ∷ []) ≡ Some o
+last_push os o =
+    let n : length (os ++ o ∷ []) ≡ length os + 1 = length_push os o in
+    let k : length (os ++ o ∷ []) - 1 < length (os ++ o ∷ []) = omega arith in
+    slice_get-get_or (os ++ o ∷ []) (length (os ++ o ∷ []) - 1) o k ∙ ap Some (get_or_push os o o (length (os ++ o ∷ []) - 1) (omega arith))
 
 -- ---- what fits
 
@@ -62,6 +70,10 @@ encode_short c =
     cond_both (ltb c 128) _ _ (λ (z : List ℕ). length z ≤ 4) (λ _. omega arith)
     (λ _. cond_both (ltb c 2048) _ _ (λ (z : List ℕ). length z ≤ 4) (λ _. omega arith)
     (λ _. cond_both (ltb c 65536) _ _ (λ (z : List ℕ). length z ≤ 4) (λ _. omega arith) (λ _. omega arith)))
+
+piece_short : (p : Piece) → length (bytes_of p) ≤ piece_size p
+piece_short (piece.Byte b) = omega arith
+piece_short (piece.Char c) = encode_short c
 
 -- ---- a value is put
 
@@ -219,9 +231,6 @@ close_map {source} a b i m ms g gs o rest cs vs n c split first reads match read
 
 -- ---- the acts
 
-abbrev pub acted : Source → ℕ → Act → Built → Built
-acted source i x m = record { notes = notes_after source i x m.text m.table m.notes; text = text_after x m.text; table = table_after x m.text m.notes m.table }
-
 kinds-length : (f : Frame) (gs : List Frame) → length (kinds f gs) ≡ length gs
 kinds-length f [] = refl
 kinds-length f (g ∷ gs) = ap suc (kinds-length g gs)
@@ -308,7 +317,7 @@ module _ (source : Source) (a b i : ℕ) (m : Built) (wide : a + i < 65535) (tal
       let around : Ready g gs × Around gs = subst Around q h.around in
       let counts : length m.table + length m.notes.pending + length m.notes.opens ≤ b + st.values = omega (arith, h.counts) in
       let size : length m.text ≤ a + i = omega (arith, h.size) in
-      subst (λ (z : Option Open). Holds source a b (i + 1) (record { notes = closed_notes z m.table (closed_table z m.text m.notes m.table) m.notes; text = m.text; table = closed_table z m.text m.notes m.table }) (closed n st.values st.chars f (g ∷ gs))) (sym found)
+      subst (λ (z : Option Open). Holds source a b (i + 1) (closed_in z m) (closed n st.values st.chars f (g ∷ gs))) (sym found)
       (subst (λ (z : Container). Holds source a b (i + 1) (shut o z m) (closed n st.values st.chars f (g ∷ gs))) (sym d.3)
       (by f c k o d.1 d.2 d.4 d.5 d.6 around counts size))
     where
@@ -327,23 +336,18 @@ module _ (source : Source) (a b i : ℕ) (m : Built) (wide : a + i < 65535) (tal
   unfolding value_of item_rows raw_rows
   perform_holds st act.Stay n h g r c = record { core = h.core; fit = g.0; around = h.around; begun = h.begun; chars = h.chars; base = h.base; counts = omega (arith, h.counts, g.1); few = h.few; size = omega (arith, h.size, g.2) }
   perform_holds st act.Begin n h g r c = record { core = h.core; fit = g.0; around = h.around; begun = h.begun; chars = h.chars; base = h.base; counts = omega (arith, h.counts, g.1); few = omega arith; size = omega (arith, h.size, g.2) }
-  perform_holds st act.OpenList n h g r c = opening-holds container.List (items written.nil) st n mode.First h g.0 g.1 tt refl refl refl refl refl r c
-  perform_holds st act.OpenObject n h g r c = opening-holds container.Object (fields written.none) st n mode.FirstKey h g.0 g.1 tt refl refl refl refl refl r c
+  perform_holds st (act.Open container.List) n h g r c = opening-holds container.List (items written.nil) st n mode.First h g.0 g.1 tt refl refl refl refl refl r c
+  perform_holds st (act.Open container.Object) n h g r c = opening-holds container.Object (fields written.none) st n mode.FirstKey h g.0 g.1 tt refl refl refl refl refl r c
   perform_holds st act.Close n h g r c = close_holds st.top st.below st n refl refl h g.0 g.1
-  perform_holds st (act.Byte y) n h g r c =
-      let ext : extended 65535 m.text (y ∷ []) ≡ m.text ++ y ∷ [] = extended_in 65535 m.text (y ∷ []) (omega (arith, h.size)) in
-      subst (λ (z : List ℕ). Holds source a b (i + 1) (record { notes = m.notes; text = z; table = m.table }) (performed (act.Byte y) n st)) (sym ext)
-      (grown (y ∷ []) st n st.values h g.0 g.1 (omega (arith, g.2)) refl)
-  perform_holds st (act.Char y) n h g r c =
-      let short = encode_short y in
-      let ext : text_after (act.Char y) m.text ≡ m.text ++ encode y = cond-true (scalar y) (extended 65535 m.text (encode y)) m.text g.3 ∙ extended_in 65535 m.text (encode y) (omega (arith, h.size, g.2)) in
-      subst (λ (z : List ℕ). Holds source a b (i + 1) (record { notes = m.notes; text = z; table = m.table }) (performed (act.Char y) n st)) (sym ext)
-      (grown (encode y) st n st.values h g.0 g.1 (omega (arith, g.2)) refl)
+  perform_holds st (act.Add p) n h g r c =
+      let short = piece_short p in
+      let ext : extended 65535 m.text (bytes_of p) ≡ m.text ++ bytes_of p = extended_in 65535 m.text (bytes_of p) (omega (arith, h.size, g.2)) in
+      subst (λ (z : List ℕ). Holds source a b (i + 1) (record { notes = m.notes; text = z; table = m.table }) (performed (act.Add p) n st)) (sym ext)
+      (grown (bytes_of p) st n st.values h g.0 g.1 (omega (arith, g.2)) refl)
   perform_holds st act.Key n h g r c = key_holds st.top st.below st n refl refl h g.0 g.1
   perform_holds st act.Text n h g r c =
       put_holds h (cell.Text (record { source = source; start = m.notes.begun; len = length m.text - m.notes.begun })) m.notes.place (written.text st.chars) (length m.text) [] st.values (i + 1) n g.0
       (λ texts ov later. ap value.text (cut_reads source m.text st.chars m.notes.begun h.begun h.chars texts ov))
       (omega arith) (drop_all (length m.text) m.text (omega arith)) (omega (arith, h.counts, g.2)) h.few (omega arith) g.1
   perform_holds st act.Null n h g r c = scalar-holds cell.Null written.null st n h (λ texts ov later. refl) g
-  perform_holds st act.True n h g r c = scalar-holds (cell.Bool true) (written.bool true) st n h (λ texts ov later. refl) g
-  perform_holds st act.False n h g r c = scalar-holds (cell.Bool false) (written.bool false) st n h (λ texts ov later. refl) g
+  perform_holds st (act.Bool y) n h g r c = scalar-holds (cell.Bool y) (written.bool y) st n h (λ texts ov later. refl) g

@@ -8,17 +8,17 @@ use Rattle.json_scanner.specs.Grammar as written
 use Rattle.json_reader.specs.Law.{ReadsOrdered}
 use Rattle.json_reader.specs.Values.{entered, entered_by, item_rows, member_rows, number_of, value_of}
 use Rattle.order.specs.Bytes.{compare_bytes}
-use Rattle.order.specs.Keyed.{bytes_preorder}
+use Rattle.order.specs.Keyed.{compare_bytes_total}
 use Rattle.std.specs.Ordering.{ordering_reverse}
 
 -- what comes before a key comes before all that the key comes before
 pub before_all : (k j : List ℕ) (ms : value.Members) → compare_bytes k j ≡ Less → Before j ms → Before k ms
 before_all k j value.no_member h b = tt
-before_all k j (value.member l v ms) h b = (bytes_preorder.trans k j l h b.0, before_all k j ms h b.1)
+before_all k j (value.member l v ms) h b = (compare_bytes_total.trans k j l h b.0, before_all k j ms h b.1)
 
 pub before_same : (k j : List ℕ) (ms : value.Members) → compare_bytes k j ≡ Equal → Before j ms → Before k ms
 before_same k j value.no_member h b = tt
-before_same k j (value.member l v ms) h b = (bytes_preorder.alike k j l h ∙ b.0, before_same k j ms h b.1)
+before_same k j (value.member l v ms) h b = (compare_bytes_total.congr k j l h ∙ b.0, before_same k j ms h b.1)
 
 pub entered_before : (k : List ℕ) (r : Row) (rows : List Row) → compare_bytes k r.key ≡ Less → Before k (members_of rows) → Before k (members_of (entered r rows))
 unfolding entered
@@ -38,7 +38,7 @@ entered-ordered r (s ∷ ss) v h = either (compare_bytes r.key s.key) refl (ente
     either : (o : Ordering) → compare_bytes r.key s.key ≡ o → OrderedMembers (members_of (entered r ss)) → OrderedMembers (members_of (entered_by o r s ss (entered r ss)))
     either Less e i = ((e, before_all r.key s.key (members_of ss) e h.0), (v, h))
     either Equal e i = (before_same r.key s.key (members_of ss) e h.0, (v, h.1.1))
-    either Greater e i = (entered_before s.key r ss (bytes_preorder.flip s.key r.key ∙ ap ordering_reverse e) h.0, (h.1.0, i))
+    either Greater e i = (entered_before s.key r ss (compare_bytes_total.antisymm s.key r.key ∙ ap ordering_reverse e) h.0, (h.1.0, i))
 
 pushed_ordered : (rows : List Row) (r : Row) → OrderedItems (items_of rows) → Ordered r.value → OrderedItems (items_of (rows ++ r ∷ []))
 pushed_ordered [] r h v = (v, tt)

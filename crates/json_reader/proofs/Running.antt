@@ -1,7 +1,6 @@
 -- What is built of a text, and the value that the machine reads.
-use Rattle.std.proofs.Common.{◌≡◌, ℕ, suc, ◌+◌, ◌<◌, ◌≤◌, Bool, true, false, cond, ltb, leb, List, [], ◌∷◌, ◌++◌, map, length, get_or, pos, neg_ℤ, Some, None, Ok, Err, Option, Result, sym, refl, ap, ◌∙◌, subst, arith}
+use Rattle.std.proofs.Common.{◌≡◌, ℕ, suc, ◌+◌, ◌<◌, ◌≤◌, min, Bool, true, false, cond, ltb, leb, List, [], ◌∷◌, ◌++◌, map, length, get_or, pos, neg_ℤ, Some, None, Ok, Err, Option, Result, sym, refl, ap, ◌∙◌, subst, arith}
 use Rattle.json_values.specs.declared.parts.Source.{Source}
-use Rattle.json_values.specs.declared.table.Cell.TheVariants as cell
 use Rattle.json_values.specs.declared.table.Entry.{Entry}
 use Rattle.json_values.specs.Meaning.{Row, no_row, meaning, row_of, rows_of}
 use Rattle.json_values.specs.Value as value
@@ -9,25 +8,27 @@ use Rattle.json_scanner.proofs.Cases.{by_cond}
 use Rattle.json_scanner.proofs.Roomy.{moved-roomy, Roomy}
 use Rattle.json_scanner.specs.Grammar.{Tree}
 use Rattle.json_scanner.specs.Grammar as written
-use Rattle.json_scanner.specs.Bytes.{Move, readied, settled, settled_figures, counted_in, still, figure, moved, then}
+use Rattle.json_scanner.specs.Bytes.{Moved, readied, settled, settled_figures, counted_in, still, figure, moved, then, valued as fitted}
 use Rattle.json_scanner.specs.Machine.{Control, Frame, bare, sole, items, fields, field, kind, kinds, put, naming, wrapped, State, control, performed, prepared, with_number, carried, stepped, step, only, ended, finished, run, surroundings, arranged, arrived, counted, innermost, settled_end, finish, turned, closed}
 use Rattle.json_scanner.specs.declared.modes.Act.{Act}
 use Rattle.json_scanner.specs.declared.modes.Act.TheVariants as act
 use Rattle.json_scanner.specs.declared.modes.Container.{Container}
+use Rattle.json_scanner.specs.declared.modes.Container.TheVariants as container
 use Rattle.json_scanner.specs.declared.modes.Fault.{Fault}
 use Rattle.json_scanner.specs.declared.modes.Figures.{Figures}
 use Rattle.json_scanner.specs.declared.modes.Figures.TheVariants as figures
 use Rattle.json_scanner.specs.declared.modes.Mode.{Mode}
 use Rattle.json_scanner.specs.declared.modes.Mode.TheVariants as mode
+use Rattle.json_scanner.specs.declared.modes.Number.TheVariants as number
 use Rattle.json_scanner.specs.declared.modes.Numeral.{Numeral}
 use Rattle.json_scanner.specs.declared.modes.Ready.{Ready as Readied}
 use Rattle.json_reader.proofs.Cores.{Over, Means, put-kind, core_length}
-use Rattle.json_reader.proofs.Frames.{all_rows, Ready, Done, Fit}
-use Rattle.json_reader.proofs.Holding.{Holds, put_holds, acted, perform_holds}
+use Rattle.json_reader.proofs.Frames.{all_rows, Ready, Done, Fit, Sized}
+use Rattle.json_reader.proofs.Holding.{Holds, put_holds, perform_holds}
 use Rattle.json_reader.proofs.Turning.{Good, moved_good}
-use Rattle.json_reader.specs.Building.{Built, built, building, ended_with, number_cell}
+use Rattle.json_reader.specs.Building.{Built, acted, built, building, ended_with, number_cell}
 use Rattle.json_reader.specs.Values.{value_of}
-use Rattle.std.proofs.lemmas.Bool.{leb-false}
+use Rattle.std.proofs.lemmas.Bool.{cond-true, le-leb, leb-false}
 use Rattle.std.proofs.lemmas.List.{append-nil}
 
 -- ---- the scanner's part of a state
@@ -61,29 +62,26 @@ close_control n vs cs f (g ∷ gs) = with_around n vs (kinds (put g (wrapped f))
 act_control : (x : Act) (n : Mode) (st : State) → control (performed x n st) ≡ record { mode = n; around = arranged x (kinds st.top st.below); values = counted x st.values }
 act_control act.Stay n st = refl
 act_control act.Begin n st = refl
-act_control act.OpenList n st = refl
-act_control act.OpenObject n st = refl
+act_control (act.Open container.List) n st = refl
+act_control (act.Open container.Object) n st = refl
 act_control act.Close n st = close_control n st.values st.chars st.top st.below
-act_control (act.Byte b) n st = refl
-act_control (act.Char c) n st = refl
+act_control (act.Add p) n st = refl
 act_control act.Key n st = with_around n st.values (kinds (naming st.top st.chars) st.below) (kinds st.top st.below) (kinds-naming st.top st.chars st.below)
 act_control act.Text n st = with_around n st.values (kinds (put st.top (written.text st.chars)) st.below) (kinds st.top st.below) (kinds-put st.top (written.text st.chars) st.below)
 act_control act.Null n st = with_around n st.values (kinds (put st.top written.null) st.below) (kinds st.top st.below) (kinds-put st.top written.null st.below)
-act_control act.True n st = with_around n st.values (kinds (put st.top (written.bool true)) st.below) (kinds st.top st.below) (kinds-put st.top (written.bool true) st.below)
-act_control act.False n st = with_around n st.values (kinds (put st.top (written.bool false)) st.below) (kinds st.top st.below) (kinds-put st.top (written.bool false) st.below)
+act_control (act.Bool b) n st = with_around n st.values (kinds (put st.top (written.bool b)) st.below) (kinds st.top st.below) (kinds-put st.top (written.bool b) st.below)
 
 -- ---- the end of a number
 
-number_means : (source : Source) (w : List ℕ) (t : List Entry) (g : Bool) (n : ℕ) → Means source w t (number_cell g n) (written.number g n)
+number_means : (source : Source) (w : List ℕ) (t : List Entry) (g : Bool) (n : ℕ) → Sized (figures.Whole g n) → Means source w t (number_cell (fitted g n)) (written.number g n)
 unfolding value_of
-number_means source w t true n texts ov later = either (leb n 9223372036854775808)
+number_means source w t true n s texts ov later =
+    let l : n ≤ 9223372036854775808 = s refl in
+    let least : min n 9223372036854775808 ≡ n = omega arith in
+    ap (λ k. value.int (neg_ℤ (pos k))) least ∙ sym (cond-true (leb n 9223372036854775808) (value.int (neg_ℤ (pos n))) (value.uint n) (le-leb n 9223372036854775808 l))
+number_means source w t false n s texts ov later = either (ltb n 9223372036854775808)
   where
-    either : (c : Bool) → meaning texts (rows_of texts (t ++ later)) (cond c (cell.Int (neg_ℤ (pos n))) (cell.Uint n)) ≡ cond c (value.int (neg_ℤ (pos n))) (value.uint n)
-    either true = refl
-    either false = refl
-number_means source w t false n texts ov later = either (ltb n 9223372036854775808)
-  where
-    either : (c : Bool) → meaning texts (rows_of texts (t ++ later)) (cond c (cell.Int (pos n)) (cell.Uint n)) ≡ cond c (value.int (pos n)) (value.uint n)
+    either : (c : Bool) → meaning texts (rows_of texts (t ++ later)) (number_cell (cond c (number.Int (pos n)) (number.Uint n))) ≡ cond c (value.int (pos n)) (value.uint n)
     either true = refl
     either false = refl
 
@@ -92,20 +90,20 @@ module _ (source : Source) (a b i : ℕ) (m : Built) (st : State) (h : Holds sou
   Prepared (Ok r) = Holds source a b i (ended_with m r.number) (prepared r st)
   Prepared (Err f) = Unit {0}
 
-  whole-holds : (g : Bool) (n from : ℕ) → Ready st.top st.below → Prepared (counted_in g n from st.values)
-  whole-holds g n from ready = by_cond Prepared (leb 4096 st.values) _ _ (λ _. tt)
+  whole-holds : (g : Bool) (n from : ℕ) → Ready st.top st.below → Sized (figures.Whole g n) → Prepared (counted_in g n from st.values)
+  whole-holds g n from ready sized = by_cond Prepared (leb 4096 st.values) _ _ (λ _. tt)
       (λ e.
-      put_holds h (number_cell g n) from (written.number g n) m.notes.begun st.chars (st.values + 1) i mode.After ready (number_means source m.text m.table g n) h.begun h.chars (omega (arith, h.counts)) (omega (arith, leb-false 4096 st.values e)) (omega arith) refl)
+      put_holds h (number_cell (fitted g n)) from (written.number g n) m.notes.begun st.chars (st.values + 1) i mode.After ready (number_means source m.text m.table g n sized) h.begun h.chars (omega (arith, h.counts)) (omega (arith, leb-false 4096 st.values e)) (omega arith) refl)
 
   same_mode : (n : Mode) → st.mode ≡ n → Prepared (Ok (still n st.values))
   same_mode n e = subst (λ (z : Mode). Holds source a b i m (record { mode = z; values = st.values; chars = st.chars; top = st.top; below = st.below })) e h
 
-  figures_holds : (g : Figures) (from : ℕ) → st.mode ≡ mode.Number g from → Ready st.top st.below → Prepared (settled_figures g from st.values)
-  figures_holds figures.Minus from e r = same_mode (mode.Number figures.Minus from) e
-  figures_holds (figures.Whole g n) from e r = whole-holds g n from r
-  figures_holds figures.Point from e r = same_mode (mode.Number figures.Point from) e
-  figures_holds figures.Power from e r = same_mode (mode.Number figures.Power from) e
-  figures_holds figures.Sign from e r = same_mode (mode.Number figures.Sign from) e
+  figures_holds : (g : Figures) (from : ℕ) → st.mode ≡ mode.Number g from → Ready st.top st.below → Sized g → Prepared (settled_figures g from st.values)
+  figures_holds figures.Minus from e r s = same_mode (mode.Number figures.Minus from) e
+  figures_holds (figures.Whole g n) from e r s = whole-holds g n from r s
+  figures_holds figures.Point from e r s = same_mode (mode.Number figures.Point from) e
+  figures_holds figures.Power from e r s = same_mode (mode.Number figures.Power from) e
+  figures_holds figures.Sign from e r s = same_mode (mode.Number figures.Sign from) e
 
   settled_at : (n : Mode) → st.mode ≡ n → Fit n st.top st.below → Prepared (settled n st.values)
   settled_at mode.Want e f = same_mode mode.Want e
@@ -115,7 +113,7 @@ module _ (source : Source) (a b i : ℕ) (m : Built) (st : State) (h : Holds sou
   settled_at mode.Colon e f = same_mode mode.Colon e
   settled_at mode.After e f = same_mode mode.After e
   settled_at (mode.Word w) e f = same_mode (mode.Word w) e
-  settled_at (mode.Number g from) e f = figures_holds g from e f
+  settled_at (mode.Number g from) e f = figures_holds g from e f.0 f.1
   settled_at (mode.Text r x) e f = same_mode (mode.Text r x) e
 
   pub settled-holds : Prepared (settled st.mode st.values)
@@ -195,27 +193,27 @@ module _ (source : Source) (a b : ℕ) (tall : b + 4096 ≤ 8192) where
 
   module _ (i : ℕ) (s : List ℕ) (next : (m : Built) (st : State) → Holds source a b (i + 1) m st → Agrees source b (building source (control st) (i + 1) s m) (run st (i + 1) s)) (wide : a + i < 65535) where
     -- the move of a state, with what the scanner has of it
-    move_agrees : (m : Built) (k : Option Numeral) (st : State) (cs : List Container) → cs ≡ kinds st.top st.below → Holds source a b i (ended_with m k) st → (x : Move) → Good st.mode st.top st.below x → Roomy (surroundings (kinds st.top st.below) st.values) x
+    move_agrees : (m : Built) (k : Option Numeral) (st : State) (cs : List Container) → cs ≡ kinds st.top st.below → Holds source a b i (ended_with m k) st → (x : Moved) → Good st.mode st.top st.below x → Roomy (surroundings i (kinds st.top st.below) st.values) x
         → Agrees source b (then (then x (λ y. Ok (arrived cs (record { mode = st.mode; values = st.values; number = k }) y))) (λ y. building source y.0 (i + 1) s (built source i y.1 m))) (then (carried x st) (λ z. run z (i + 1) s))
     move_agrees m k st cs e h (Ok y) g r =
-        let c : record { mode = y.0; around = arranged y.1 cs; values = counted y.1 st.values } ≡ control (performed y.1 y.0 st) = with_around y.0 (counted y.1 st.values) (arranged y.1 cs) (arranged y.1 (kinds st.top st.below)) (ap (arranged y.1) e) ∙ sym (act_control y.1 y.0 st) in
-        subst (λ (z : Control). Agrees source b (building source z (i + 1) s (built source i (record { number = k; act = y.1 }) m)) (run (performed y.1 y.0 st) (i + 1) s)) (sym c)
-        (next (acted source i y.1 (ended_with m k)) (performed y.1 y.0 st) (perform_holds source a b i (ended_with m k) wide tall st y.1 y.0 h g r.0 r.1))
+        let c : record { mode = y.mode; around = arranged y.act cs; values = counted y.act st.values } ≡ control (performed y.act y.mode st) = with_around y.mode (counted y.act st.values) (arranged y.act cs) (arranged y.act (kinds st.top st.below)) (ap (arranged y.act) e) ∙ sym (act_control y.act y.mode st) in
+        subst (λ (z : Control). Agrees source b (building source z (i + 1) s (built source i (record { number = k; act = y.act }) m)) (run (performed y.act y.mode st) (i + 1) s)) (sym c)
+        (next (acted source i y.act (ended_with m k)) (performed y.act y.mode st) (perform_holds source a b i (ended_with m k) wide tall st y.act y.mode h g r.0 r.1))
     move_agrees m k st cs e h (Err f) g r = refl
 
     step_agrees : (m : Built) (st : State) (y : ℕ) → Holds source a b i m st → Agrees source b (then (turned i (control st) y) (λ x. building source x.0 (i + 1) s (built source i x.1 m))) (then (step i st y) (λ z. run z (i + 1) s))
     step_agrees m st y h = by (readied y st.mode st.values) (readied-holds source a b i m st h y)
       where
         by : (x : Result Readied Fault) → Prepared source a b i m st h x
-            → Agrees source b (then (then x (λ r. then (moved r.mode (surroundings (kinds st.top st.below) r.values) i y) (λ z. Ok (arrived (kinds st.top st.below) r z)))) (λ z. building source z.0 (i + 1) s (built source i z.1 m)))
+            → Agrees source b (then (then x (λ r. then (moved r.mode (surroundings i (kinds st.top st.below) r.values) y) (λ z. Ok (arrived (kinds st.top st.below) r z)))) (λ z. building source z.0 (i + 1) s (built source i z.1 m)))
             (then (then x (λ r. stepped i (prepared r st) y)) (λ z. run z (i + 1) s))
         by (Ok r) p =
             let st1 = prepared r st in
             let e = kinds_number r.number st.top st.below in
-            subst (λ (cs : List Container). Agrees source b (then (then (moved r.mode (surroundings cs r.values) i y) (λ z. Ok (arrived (kinds st.top st.below) r z))) (λ z. building source z.0 (i + 1) s (built source i z.1 m)))
+            subst (λ (cs : List Container). Agrees source b (then (then (moved r.mode (surroundings i cs r.values) y) (λ z. Ok (arrived (kinds st.top st.below) r z))) (λ z. building source z.0 (i + 1) s (built source i z.1 m)))
             (then (stepped i st1 y) (λ z. run z (i + 1) s))) e
-            (move_agrees m r.number st1 (kinds st.top st.below) (sym e) p (moved r.mode (surroundings (kinds st1.top st1.below) r.values) i y)
-            (moved_good r.mode st1.top st1.below r.values i y p.fit) (moved-roomy (surroundings (kinds st1.top st1.below) r.values) r.mode i y))
+            (move_agrees m r.number st1 (kinds st.top st.below) (sym e) p (moved r.mode (surroundings i (kinds st1.top st1.below) r.values) y)
+            (moved_good r.mode st1.top st1.below r.values i y p.fit) (moved-roomy (surroundings i (kinds st1.top st1.below) r.values) r.mode y))
         by (Err f) p = refl
 
   pub run_agrees : (s : List ℕ) (i : ℕ) (m : Built) (st : State) → a + i + length s ≤ 65535 → Holds source a b i m st → Agrees source b (building source (control st) i s m) (run st i s)

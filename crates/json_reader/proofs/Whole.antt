@@ -1,5 +1,5 @@
 -- A whole text.
-use Rattle.std.proofs.Common.{◌≡◌, ℕ, ◌+◌, ◌≤◌, Bool, true, false, cond, leb, List, [], ◌∷◌, ◌++◌, length, get_or, take, drop, Some, Ok, Err, Option, Result, sym, refl, ap, ◌∙◌, inl, inr, arith}
+use Rattle.std.proofs.Common.{◌≡◌, ℕ, ◌+◌, ◌≤◌, Bool, true, false, cond, leb, List, [], ◌∷◌, ◌++◌, length, get_or, take, drop, Some, Ok, Err, Option, Result, sym, refl, ap, ◌∙◌, subst, inl, inr, arith}
 use Rattle.json_values.proofs.Rows.{rows_of-length, rows_push, meanings_stay}
 use Rattle.json_values.specs.Meaning.{Row, no_row, row_of, rows_of, value_at}
 use Rattle.json_values.specs.declared.parts.Source.{Source}
@@ -11,11 +11,12 @@ use Rattle.json_scanner.specs.declared.modes.Fault.{Fault as Flaw}
 use Rattle.json_scanner.specs.declared.modes.Fault.TheVariants as flaw
 use Rattle.json_scanner.specs.declared.modes.Numeral.{Numeral}
 use Rattle.json_scanner.specs.declared.modes.Step.{Step}
-use Rattle.json_reader.proofs.Builds.{text_stays, table_stays, extended_stays}
+use Rattle.json_reader.proofs.Builds.{Keeps, acted-keeps, extended_stays}
 use Rattle.json_reader.proofs.Holding.{Holds, extended_in}
 use Rattle.json_reader.proofs.Running.{Finished, Agrees, run_agrees}
-use Rattle.json_reader.specs.Building.{Built, built, building, ended_with, numbered}
+use Rattle.json_reader.specs.Building.{Built, built, building, ended_with}
 use Rattle.json_reader.specs.Law.{Taken, ReadsAs}
+use Rattle.json_reader.specs.declared.fault.Fault.{Fault}
 use Rattle.json_reader.specs.Reading.{roomy, beginning, reading, rooted, outcome}
 use Rattle.std.proofs.lemmas.List.{append-nil, drop_all, take_all, take-append-drop, get_or_push, length_push}
 use Rattle.std.proofs.lemmas.Bool.{and_parts, leb-true}
@@ -24,14 +25,11 @@ use Rattle.std.specs.List.{slice_get}
 -- ---- what was there stays
 
 module _ (source : Source) (w : List ℕ) (t : List Entry) where
-  abbrev Keeps : Built → Type 0
-  Keeps m = (take (length w) m.text ≡ w) × (take (length t) m.table ≡ t)
-
   abbrev Kept : Result Built Flaw → Type 0
-  Kept (Ok m) = Keeps m
+  Kept (Ok m) = Keeps w t m
   Kept (Err f) = Unit {0}
 
-  building_keeps : (s : List ℕ) (c : Control) (i : ℕ) (m : Built) → Keeps m → Kept (building source c i s m)
+  building_keeps : (s : List ℕ) (c : Control) (i : ℕ) (m : Built) → Keeps w t m → Kept (building source c i s m)
   unfolding building
   building_keeps [] c i m h = by (finish i c)
     where
@@ -40,8 +38,8 @@ module _ (source : Source) (w : List ℕ) (t : List Entry) where
       by (Err f) = tt
   building_keeps (b ∷ s) c i m h = by (turned i c b) (λ c m h. building_keeps s c (i + 1) m h)
     where
-      by : (x : Result (Control × Step) Flaw) → ((c : Control) (m : Built) → Keeps m → Kept (building source c (i + 1) s m)) → Kept (then x (λ y. building source y.0 (i + 1) s (built source i y.1 m)))
-      by (Ok y) next = next y.0 (built source i y.1 m) (text_stays w m.text y.1.act h.0, table_stays t m.table y.1.act m.text (numbered y.1.number m.notes) h.1)
+      by : (x : Result (Control × Step) Flaw) → ((c : Control) (m : Built) → Keeps w t m → Kept (building source c (i + 1) s m)) → Kept (then x (λ y. building source y.0 (i + 1) s (built source i y.1 m)))
+      by (Ok y) next = next y.0 (built source i y.1 m) (acted-keeps w t source i y.1.act (ended_with m y.1.number) h)
       by (Err f) next = tt
 
   -- before the first byte
@@ -65,7 +63,7 @@ module _ (source : Source) (w : List ℕ) (t : List Entry) where
     tall : length t + 4096 ≤ 8192
     tall = leb-true (length t + 4096) 8192 (and_parts (leb (length w + length text) 65535) (leb (length t + 4096) 8192) room).1
 
-    taken : (m : Built) (v : Tree) → run start 0 text ≡ Ok v → Finished source (length t) m v → Keeps m → Taken source text w t (length m.table) m.text (rooted (slice_get m.notes.pending 0) m.table)
+    taken : (m : Built) (v : Tree) → run start 0 text ≡ Ok v → Finished source (length t) m v → Keeps w t m → Taken source text w t (length m.table) m.text (rooted (slice_get m.notes.pending 0) m.table)
     taken m v e f k =
         let x : Entry = f.0 in
         let root : slice_get m.notes.pending 0 ≡ Some x = ap (λ (z : List Entry). slice_get z 0) f.1 in
@@ -105,3 +103,10 @@ module _ (source : Source) (w : List ℕ) (t : List Entry) where
           (run_agrees source (length w) (length t) (tall text e) text 0 (beginning w t) start (omega (arith, wide text e)) start-holds)
           (building_keeps text fresh 0 (beginning w t) (take_all (length w) w (omega arith), take_all (length t) t (omega arith)))
       by false e = record { whose = refl; why = inr (e, refl); same_text = refl; same_table = refl }
+
+  -- the same of what was read, by its parts
+  pub law_by : (text : List ℕ) (r : Result ℕ Fault) (w1 : List ℕ) (t1 : List Entry) → r ≡ (outcome source w t (reading source text w t)).answer → w1 ≡ (outcome source w t (reading source text w t)).text → t1 ≡ (outcome source w t (reading source text w t)).table → ReadsAs source text w t r w1 t1
+  law_by text r w1 t1 a b c =
+      subst (λ (z : Result ℕ Fault). ReadsAs source text w t z w1 t1) (sym a)
+      (subst (λ (z : List ℕ). ReadsAs source text w t (outcome source w t (reading source text w t)).answer z t1) (sym b)
+      (subst (λ (z : List Entry). ReadsAs source text w t (outcome source w t (reading source text w t)).answer (outcome source w t (reading source text w t)).text z) (sym c) (read_law text)))

@@ -1,9 +1,7 @@
--- What is built of a text that is not at its end.
+-- What is built of a text that is not at its end, and what a reader holds.
 use Rattle.std.specs.Prelude.{ℕ, List}
-use Rattle.fixed.specs.Listed.{listed}
 use Rattle.json_values.specs.declared.parts.Part.{Part}
 use Rattle.json_values.specs.declared.table.Entry.{Entry}
-use Rattle.json_reader.specs.declared.builder.Builder.{Builder}
 use Rattle.json_reader.specs.declared.builder.Open.{Open}
 
 -- the values that wait for their container, the containers that are open, the key of the value to come, where the
@@ -15,5 +13,12 @@ pub record Notes : Type 0 where
   pub begun : ℕ
   pub place : ℕ
 
-abbrev pub notes : Builder → Notes
-notes b = record { pending = listed b.pending; opens = listed b.opens; key = b.key; begun = b.begun; place = b.place }
+-- what a sort works in
+pub record Room : Type 0 where
+  pub numbers : List ℕ
+  pub scratch : List ℕ
+
+-- a reader: what is built of its text, and its room for sorts
+pub record Desk : Type 0 where
+  pub notes : Notes
+  pub room : Room

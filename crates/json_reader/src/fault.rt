@@ -6,14 +6,14 @@ use json_scanner::modes::Fault as Flaw;
 use json_values::parts::Source;
 
 // The text, and its flaw.
-#[derive(Clone, Copy)]
+#[derive(Clone, Copy, PartialEq, Eq, Debug)]
 pub struct Fault {
     pub text: Source,
     pub flaw: Flaw,
 }
 
 impl Fault {
-    // 1 malformed, 2 nested, 3 number, 4 crowded.
+    // 1 malformed, 2 nested, 3 number, 4 crowded. The numbers are a public format, and the scanner's fault has none.
     pub fn number(self) -> u8
         ensures { result ≡ flaw_number self.flaw }
     {

@@ -3,7 +3,6 @@
 
 mod bench;
 mod builder;
-mod closing;
 pub mod fault;
 mod reader;
 mod sift;

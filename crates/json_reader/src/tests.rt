@@ -1,6 +1,5 @@
 // Texts that are read, and what they leave.
 use super::Reader;
-use json_values::held_text;
 use json_values::parts::Source;
 use json_values::store::Store;
 use json_values::table::{Cell, Entry, Table};
@@ -20,7 +19,7 @@ fn span(cell: Cell) -> Result<(usize, usize), Fail> {
 }
 
 fn has_key(store: &Store, found: Entry, key: &[u8]) -> bool {
-    held_text(store, store, store, found.key) == key
+    found.key.of(store.text()) == key
 }
 
 #[test]

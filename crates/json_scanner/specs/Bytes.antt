@@ -221,11 +221,15 @@ spelling word.Fals = leads mode.After (act.Bool false)
 abbrev pub broken_off : ℕ → ℕ → ℕ → Fault
 broken_off values from i = cond (nat_le 4096 values) (fault.Crowded from) (fault.Malformed i)
 
+-- why a number that began at `from` is refused
+abbrev pub number_fault : NumberError → ℕ → ℕ → ℕ → Fault
+number_fault number_error.Unfit values from i = fault.Number from
+number_fault number_error.Broken values from i = broken_off values from i
+
 -- a byte of a number that began at `from`
 abbrev pub judged : Result Figures NumberError → ℕ → ℕ → ℕ → Moved
 judged (Ok f) values from i = goes (mode.Number f from) act.Stay
-judged (Err number_error.Unfit) values from i = Err (fault.Number from)
-judged (Err number_error.Broken) values from i = Err (broken_off values from i)
+judged (Err e) values from i = Err (number_fault e values from i)
 
 -- the act that adds to a text
 abbrev pub act_of : Option Piece → Act

@@ -1,6 +1,6 @@
 // What a byte does in each mode.
 ghost use Rattle.json_scanner.specs.Grammar.{white};
-ghost use Rattle.json_scanner.specs.Bytes.{begun, beginning, broken_off, closing, followed, judged, keyed, leads, letter, moved, noted, opening, quoted, spelling};
+ghost use Rattle.json_scanner.specs.Bytes.{begun, beginning, broken_off, closing, followed, judged, keyed, leads, letter, moved, noted, number_fault, opening, quoted, spelling};
 ghost use Rattle.std.specs.Prelude.{◌≡◌};
 
 use super::modes::{
@@ -155,15 +155,22 @@ impl Around {
         }
     }
 
+    // Why a number that began at `from` is refused.
+    fn number_fault(self, error: NumberError, from: usize) -> Fault
+        ensures { result ≡ number_fault error self.values from self.place }
+    {
+        match error {
+            NumberError::Unfit => Fault::Number(from),
+            NumberError::Broken => self.broken_number(from),
+        }
+    }
+
     // A byte of a number that began at `from`.
     fn judge(self, figures: Result<Figures, NumberError>, from: usize) -> Result<Move, Fault>
         ensures { result ≡ judged figures self.values from self.place }
     {
-        match figures {
-            Ok(figures) => Ok(Move::to(Mode::Number(figures, from), Act::Stay)),
-            Err(NumberError::Unfit) => Err(Fault::Number(from)),
-            Err(NumberError::Broken) => Err(self.broken_number(from)),
-        }
+        let figures = figures.map_err(|error| self.number_fault(error, from))?;
+        Ok(Move::to(Mode::Number(figures, from), Act::Stay))
     }
 
     // A byte of a string, where `spelled` says what it does.

@@ -1,21 +1,14 @@
 // The digits of a number, and its end.
 ghost use Rattle.std.specs.Prelude.{◌≡◌, ◌<◌};
-ghost use Rattle.json_scanner.specs.Grammar.{power};
 ghost use Rattle.json_scanner.specs.Bytes.{figure, figured, grown, readied, settled, still, valued};
 
 use super::modes::{Fault, Figures, Mode, Number, NumberError, Numeral, Ready, VALUES};
-
-fn is_power(b: u8) -> bool
-    ensures { result ≡ power b }
-{
-    b == b'e' || b == b'E'
-}
 
 // A byte with which an integer may go on.
 fn is_figure(b: u8) -> bool
     ensures { result ≡ figure b }
 {
-    b.is_ascii_digit() || b == b'.' || is_power(b)
+    matches!(b, b'0'..=b'9' | b'.' | b'e' | b'E')
 }
 
 // One more digit of an integer: from -2^63 to 2^64 - 1.
@@ -26,19 +19,9 @@ fn grow(minus: bool, size: u64, d: u8) -> Result<Figures, NumberError>
     if size == 0 {
         return Err(NumberError::Broken);
     }
-    let more = u128::from(size) * 10 + u128::from(d);
-    let limit = if minus {
-        0x8000_0000_0000_0001
-    } else {
-        0x1_0000_0000_0000_0000
-    };
-    if more >= limit {
-        Err(NumberError::Unfit)
-    } else {
-        Ok(Figures::Whole {
-            minus,
-            size: more as u64,
-        })
+    match u64::try_from(u128::from(size) * 10 + u128::from(d)) {
+        Ok(size) if !minus || size <= 0x8000_0000_0000_0000 => Ok(Figures::Whole { minus, size }),
+        _ => Err(NumberError::Unfit),
     }
 }
 

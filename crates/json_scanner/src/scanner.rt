@@ -45,7 +45,7 @@ fn arrange(containers: &mut ArrayVec<Container, DEPTH>, act: Act)
     match act {
         Act::Open(container) => containers.push(container),
         Act::Close => {
-            let _ = containers.pop();
+            containers.pop();
         }
         _ => {}
     }

@@ -25,13 +25,13 @@ fn adding(at: Inside, piece: Piece) -> Option<Spelled>
 fn is_plain(b: u8) -> bool
     ensures { result ≡ plain b }
 {
-    b >= 32 && b < 128 && b != b'"' && b != b'\\'
+    matches!(b, 0x20..=0x7f) && b != b'"' && b != b'\\'
 }
 
 fn is_tail(b: u8) -> bool
     ensures { result ≡ tail b }
 {
-    b >= 0x80 && b <= 0xbf
+    matches!(b, 0x80..=0xbf)
 }
 
 // The second byte of a sequence of three or four: no overlong form, no surrogate, nothing above U+10FFFF.
@@ -39,10 +39,10 @@ fn is_second(a: u8, b: u8) -> bool
     ensures { result ≡ second a b }
 {
     match a {
-        0xe0 => b >= 0xa0 && b <= 0xbf,
-        0xed => b >= 0x80 && b <= 0x9f,
-        0xf0 => b >= 0x90 && b <= 0xbf,
-        0xf4 => b >= 0x80 && b <= 0x8f,
+        0xe0 => matches!(b, 0xa0..=0xbf),
+        0xed => matches!(b, 0x80..=0x9f),
+        0xf0 => matches!(b, 0x90..=0xbf),
+        0xf4 => matches!(b, 0x80..=0x8f),
         _ => is_tail(b),
     }
 }

@@ -6,7 +6,6 @@ use Rattle.json_scanner.specs.Grammar.{Tree, Text, over, size}
 use Rattle.json_scanner.specs.Machine.{forgotten, fresh, scan, run, start}
 use Rattle.json_scanner.specs.Faults.{place_of, number_of, CountsFirst, Faulty}
 use Rattle.json_scanner.specs.Theorem.{Builds, Reads, Alone}
-use Rattle.json_scanner.proofs.Cases.{no}
 use Rattle.json_scanner.proofs.Shape.{Right}
 use Rattle.json_scanner.proofs.Complete.{text_run}
 use Rattle.json_scanner.proofs.Places.{malformed, sound, stands}
@@ -14,10 +13,10 @@ use Rattle.json_scanner.proofs.Firsts.{first_fault}
 use Rattle.json_scanner.proofs.Bridge.{scan-run}
 
 within_limits : (s : List ℕ) (t : Tree) → Text t s → run start 0 s ≡ Ok t → (over 0 t ≡ false) × (size t ≤ 4096)
-within_limits s t tx = text_run (length s) (λ o. o ≡ Ok t → (over 0 t ≡ false) × (size t ≤ 4096)) tx refl (λ _ _ _ _ e. no e) (λ ov le _. (ov, le))
+within_limits s t tx = text_run (length s) (λ o. o ≡ Ok t → (over 0 t ≡ false) × (size t ≤ 4096)) tx refl (λ _ _ _ _ e. cc) (λ ov le _. (ov, le))
 
 one_value : (s : List ℕ) (t v : Tree) → run start 0 s ≡ Ok t → Text v s → v ≡ t
-one_value s t v e tx = text_run (length s) (λ o. o ≡ Ok t → v ≡ t) tx refl (λ _ _ _ _ q. no q) (λ _ _ q. cc) e
+one_value s t v e tx = text_run (length s) (λ o. o ≡ Ok t → v ≡ t) tx refl (λ _ _ _ _ q. cc) (λ _ _ q. cc) e
 
 pub accepted : (s : List ℕ) (v : Tree) → Text v s → over 0 v ≡ false → size v ≤ 4096 → run start 0 s ≡ Ok v
 accepted s v tx ov le = text_run (length s) (λ o. o ≡ Ok v) tx refl (λ out _ _ _. absurd (out (ov, omega arith))) (λ _ _. refl)

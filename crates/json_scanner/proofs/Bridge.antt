@@ -1,5 +1,6 @@
 -- The scanner goes as the machine that builds: their answers are the same.
 use Rattle.std.proofs.Common.{◌≡◌, ℕ, ◌+◌, leb, List, [], ◌∷◌, Some, None, Ok, Err, Option, Result, sym, refl, ap, ◌∙◌, subst}
+use Rattle.std.proofs.lemmas.Bool.{cond_both}
 use Rattle.json_scanner.specs.declared.modes.Mode.{Mode}
 use Rattle.json_scanner.specs.declared.modes.Mode.TheVariants as mode
 use Rattle.json_scanner.specs.declared.modes.Act.{Act}
@@ -13,37 +14,36 @@ use Rattle.json_scanner.specs.declared.modes.Container.TheVariants as container
 use Rattle.json_scanner.specs.declared.modes.Figures.{Figures}
 use Rattle.json_scanner.specs.declared.modes.Figures.TheVariants as figures
 use Rattle.json_scanner.specs.Grammar.{Tree}
-use Rattle.json_scanner.proofs.Cases.{by_cond, no}
 use Rattle.json_scanner.specs.Bytes.{Moved, moved, readied, settled, settled_figures, figure, then}
 use Rattle.json_scanner.specs.Machine.{Control, State, Frame, bare, sole, items, fields, field, kind, kinds, put, naming, wrapped, surroundings, innermost, arranged, counted, arrived, turned, settled_end, finish, scan, forgotten, control, closed, performed, with_number, with_ended, prepared, carried, stepped, step, ended, finished, run}
 
-kind-put : (f : Frame) (v : Tree) → kind (put f v) ≡ kind f
+pub kind-put : (f : Frame) (v : Tree) → kind (put f v) ≡ kind f
 kind-put bare v = refl
 kind-put (sole u) v = refl
 kind-put (items ts) v = refl
 kind-put (fields ms) v = refl
 kind-put (field ms k) v = refl
 
-kind-naming : (f : Frame) (k : List ℕ) → kind (naming f k) ≡ kind f
+pub kind-naming : (f : Frame) (k : List ℕ) → kind (naming f k) ≡ kind f
 kind-naming bare k = refl
 kind-naming (sole u) k = refl
 kind-naming (items ts) k = refl
 kind-naming (fields ms) k = refl
 kind-naming (field ms j) k = refl
 
-kinds-put : (f : Frame) (v : Tree) (bs : List Frame) → kinds f bs ≡ kinds (put f v) bs
+pub kinds-put : (f : Frame) (v : Tree) (bs : List Frame) → kinds f bs ≡ kinds (put f v) bs
 kinds-put f v [] = refl
 kinds-put f v (g ∷ gs) = ap (λ k. k ∷ kinds g gs) (sym (kind-put f v))
 
-kinds-naming : (f : Frame) (k : List ℕ) (bs : List Frame) → kinds f bs ≡ kinds (naming f k) bs
+pub kinds-naming : (f : Frame) (k : List ℕ) (bs : List Frame) → kinds f bs ≡ kinds (naming f k) bs
 kinds-naming f k [] = refl
 kinds-naming f k (g ∷ gs) = ap (λ c. c ∷ kinds g gs) (sym (kind-naming f k))
 
-kinds_number : (o : Option Numeral) (f : Frame) (bs : List Frame) → kinds f bs ≡ kinds (with_number o f) bs
+pub kinds_number : (o : Option Numeral) (f : Frame) (bs : List Frame) → kinds f bs ≡ kinds (with_number o f) bs
 kinds_number None f bs = refl
 kinds_number (Some k) f bs = kinds-put f (Tree.number k.minus k.size) bs
 
-abbrev made : Mode → ℕ → List Container → Control
+abbrev pub made : Mode → ℕ → List Container → Control
 made m n cs = record { mode = m; around = cs; values = n }
 
 tracks_close : (m : Mode) (n : ℕ) (cs : List ℕ) (f : Frame) (bs : List Frame) → made m n (arranged act.Close (kinds f bs)) ≡ control (closed m n cs f bs)
@@ -51,7 +51,7 @@ tracks_close m n cs f [] = refl
 tracks_close m n cs f (g ∷ gs) = ap (made m n) (kinds-put g (wrapped f) gs)
 
 -- the containers and the count of a state after an act
-tracks : (a : Act) (m : Mode) (st : State) → made m (counted a st.values) (arranged a (kinds st.top st.below)) ≡ control (performed a m st)
+pub tracks : (a : Act) (m : Mode) (st : State) → made m (counted a st.values) (arranged a (kinds st.top st.below)) ≡ control (performed a m st)
 tracks act.Stay m st = refl
 tracks act.Begin m st = refl
 tracks (act.Open container.List) m st = refl
@@ -127,7 +127,7 @@ at_mode m n cs f bs = record { mode = m; values = n; chars = cs; top = f; below 
 
 figures_prepared : (g : Figures) (from n : ℕ) (cs : List ℕ) (f : Frame) (bs : List Frame) → Prepared (at_mode (mode.Number g from) n cs f bs) (settled_figures g from n)
 figures_prepared figures.Minus from n cs f bs = refl
-figures_prepared (figures.Whole g k) from n cs f bs = by_cond (Prepared (at_mode (mode.Number (figures.Whole g k) from) n cs f bs)) (leb 4096 n) _ _ (λ _. tt) (λ _. refl)
+figures_prepared (figures.Whole g k) from n cs f bs = cond_both (leb 4096 n) _ _ (Prepared (at_mode (mode.Number (figures.Whole g k) from) n cs f bs)) (λ _. tt) (λ _. refl)
 figures_prepared figures.Point from n cs f bs = refl
 figures_prepared figures.Power from n cs f bs = refl
 figures_prepared figures.Sign from n cs f bs = refl
@@ -144,7 +144,7 @@ settled-prepared (mode.Number g from) n cs f bs = figures_prepared g from n cs f
 settled-prepared (mode.Text r x) n cs f bs = refl
 
 readied-prepared : (b : ℕ) (st : State) → Prepared st (readied b st.mode st.values)
-readied-prepared b st = by_cond (Prepared st) (figure b) _ _ (λ _. refl) (λ _. settled-prepared st.mode st.values st.chars st.top st.below)
+readied-prepared b st = cond_both (figure b) _ _ (Prepared st) (λ _. refl) (λ _. settled-prepared st.mode st.values st.chars st.top st.below)
 
 moved-built : (cs : List Container) (r : Ready) (st : State) (c : Control) (x : Step) (mv : Moved) → prepared r st ≡ with_ended r.number st → then mv (λ m. Ok (arrived cs r m)) ≡ Ok (c, x)
     → carried mv (prepared r st) ≡ Ok (performed x.act c.mode (with_ended x.number st))
@@ -154,7 +154,7 @@ moved-built cs r st c x (Ok m) p e =
     let k : m.mode ≡ c.mode = ap (λ (z : Control × Step). z.0.mode) same in
     let n : r.number ≡ x.number = ap (λ (z : Control × Step). z.1.number) same in
     ap Ok (ap (λ z. performed z m.mode (prepared r st)) a ∙ (ap (λ z. performed x.act z (prepared r st)) k ∙ ap (performed x.act c.mode) (p ∙ ap (λ z. with_ended z st) n)))
-moved-built cs r st c x (Err f) p e = no e
+moved-built cs r st c x (Err f) p e = cc
 
 ready_built : (i b : ℕ) (st : State) (c : Control) (x : Step) (q : Result Ready Fault) → Prepared st q
     → then q (λ r. then (moved r.mode (surroundings i (kinds st.top st.below) r.values) b) (λ m. Ok (arrived (kinds st.top st.below) r m))) ≡ Ok (c, x)
@@ -163,7 +163,7 @@ ready_built i b st c x (Ok r) p e =
     let k = kinds_number r.number st.top st.below in
     subst (λ cs. carried (moved r.mode (surroundings i cs r.values) b) (prepared r st) ≡ Ok (performed x.act c.mode (with_ended x.number st))) k
     (moved-built (kinds st.top st.below) r st c x (moved r.mode (surroundings i (kinds st.top st.below) r.values) b) p e)
-ready_built i b st c x (Err f) p e = no e
+ready_built i b st c x (Err f) p e = cc
 
 -- what a step of the scanner builds
 pub step-built : (i b : ℕ) (st : State) (c : Control) (x : Step) → turned i (control st) b ≡ Ok (c, x) → step i st b ≡ Ok (performed x.act c.mode (with_ended x.number st))
@@ -171,23 +171,23 @@ step-built i b st c x e = ready_built i b st c x (readied b st.mode st.values) (
 
 end_built : (i : ℕ) (m : Mode) (f g : Frame) (bs : List Frame) (n : ℕ) (cs : List ℕ) (k l : Option Numeral) → settled_end i m (innermost (kinds f bs)) n k ≡ Ok l
     → (ended i m (at_mode m n cs g bs) ≡ Ok (wrapped g)) × (k ≡ l)
-end_built i mode.Want f g bs n cs k l e = no e
-end_built i mode.First f g bs n cs k l e = no e
-end_built i mode.FirstKey f g bs n cs k l e = no e
-end_built i mode.NextKey f g bs n cs k l e = no e
-end_built i mode.Colon f g bs n cs k l e = no e
+end_built i mode.Want f g bs n cs k l e = cc
+end_built i mode.First f g bs n cs k l e = cc
+end_built i mode.FirstKey f g bs n cs k l e = cc
+end_built i mode.NextKey f g bs n cs k l e = cc
+end_built i mode.Colon f g bs n cs k l e = cc
 end_built i mode.After f g [] n cs k l e = (refl, cc)
-end_built i mode.After f g (b ∷ bs) n cs k l e = no e
-end_built i (mode.Word w) f g bs n cs k l e = no e
-end_built i (mode.Number x from) f g bs n cs k l e = no e
-end_built i (mode.Text r x) f g bs n cs k l e = no e
+end_built i mode.After f g (b ∷ bs) n cs k l e = cc
+end_built i (mode.Word w) f g bs n cs k l e = cc
+end_built i (mode.Number x from) f g bs n cs k l e = cc
+end_built i (mode.Text r x) f g bs n cs k l e = cc
 
 finished-built : (i : ℕ) (st : State) (k : Option Numeral) (q : Result Ready Fault) → then q (λ r. settled_end i r.mode (innermost (kinds st.top st.below)) r.values r.number) ≡ Ok k
     → then q (λ r. ended i r.mode (prepared r st)) ≡ Ok (wrapped (with_number k st.top))
 finished-built i st k (Ok r) e =
     let h = end_built i r.mode st.top (with_number r.number st.top) st.below r.values st.chars r.number k e in
     h.0 ∙ ap (λ z. Ok (wrapped (with_number z st.top))) h.1
-finished-built i st k (Err f) e = no e
+finished-built i st k (Err f) e = cc
 
 -- what the end of the text builds
 pub finish-built : (i : ℕ) (st : State) (k : Option Numeral) → finish i (control st) ≡ Ok k → finished i st ≡ Ok (wrapped (with_number k st.top))

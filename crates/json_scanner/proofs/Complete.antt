@@ -1,5 +1,6 @@
 -- Every text of the grammar is read to its end, or to a limit.
 use Rattle.std.proofs.Common.{◌≡◌, ℕ, suc, ◌+◌, ◌<◌, ◌≤◌, true, false, eqb, leb, List, [], ◌∷◌, ◌++◌, length, Ok, Err, Result, sym, refl, ap, ◌∙◌, subst, append_assoc, append-nil, arith, length-append}
+use Rattle.std.proofs.lemmas.Bool.{cond_both, cond-true, cond-false, or_from, or_parts, leb-false, leb-true, false≢true}
 use Rattle.std.proofs.lemmas.Bool.Decides.{nat_tests}
 use Rattle.json_scanner.specs.declared.modes.Role.TheVariants as role
 use Rattle.json_scanner.specs.declared.modes.Inside.TheVariants as inside
@@ -16,7 +17,6 @@ use Rattle.json_scanner.specs.Grammar.{Tree, Trees, nil, snoc, Members, none, wi
 use Rattle.json_scanner.specs.Bytes.{Moved, moved, opening, beginning, then}
 use Rattle.json_scanner.specs.Machine.{State, Frame, bare, sole, items, fields, field, kinds, put, surroundings, performed, carried, step, run, start}
 use Rattle.json_scanner.specs.Faults.{starts, place_of}
-use Rattle.json_scanner.proofs.Cases.{below, reached, by_cond, is_true, is_false, never, or_false, no_left, no_right}
 use Rattle.json_scanner.proofs.Shape.{made_of, kinds-length}
 use Rattle.json_scanner.proofs.Numbers.{Opens, whole-opens, real_opens, opens-starts}
 use Rattle.json_scanner.proofs.Goes.{Goes, go, blanks, Stops, blank_stops, unsettled, step-moved, chars_run}
@@ -37,7 +37,7 @@ colon_at ms k f bs n = made_of mode.Colon n [] (field ms k) (f ∷ bs)
 -- ---- blanks
 
 pub stay_want : (f : Frame) (bs : List Frame) (n i b : ℕ) → white b ≡ true → step i (want f bs n) b ≡ Ok (want f bs n)
-stay_want f bs n i b e = step-moved i b mode.Want n [] f bs _ refl (is_true (white b) _ _ e)
+stay_want f bs n i b e = step-moved i b mode.Want n [] f bs _ refl (cond-true (white b) _ _ e)
 
 not_93 : (b : ℕ) → white b ≡ true → eqb b 93 ≡ false
 not_93 b e = grind (arith, nat_tests)
@@ -46,19 +46,19 @@ not_125 : (b : ℕ) → white b ≡ true → eqb b 125 ≡ false
 not_125 b e = grind (arith, nat_tests)
 
 pub stay_first : (f : Frame) (bs : List Frame) (n i b : ℕ) → white b ≡ true → step i (first_in f bs n) b ≡ Ok (first_in f bs n)
-stay_first f bs n i b e = step-moved i b mode.First n [] (items nil) (f ∷ bs) _ refl (is_false (eqb b 93) _ _ (not_93 b e) ∙ is_true (white b) _ _ e)
+stay_first f bs n i b e = step-moved i b mode.First n [] (items nil) (f ∷ bs) _ refl (cond-false (eqb b 93) _ _ (not_93 b e) ∙ cond-true (white b) _ _ e)
 
 pub stay_first_key : (f : Frame) (bs : List Frame) (n i b : ℕ) → white b ≡ true → step i (first_key f bs n) b ≡ Ok (first_key f bs n)
-stay_first_key f bs n i b e = step-moved i b mode.FirstKey n [] (fields none) (f ∷ bs) _ refl (is_false (eqb b 125) _ _ (not_125 b e) ∙ is_true (white b) _ _ e)
+stay_first_key f bs n i b e = step-moved i b mode.FirstKey n [] (fields none) (f ∷ bs) _ refl (cond-false (eqb b 125) _ _ (not_125 b e) ∙ cond-true (white b) _ _ e)
 
 pub stay_next_key : (ms : Members) (f : Frame) (bs : List Frame) (n i b : ℕ) → white b ≡ true → step i (next_key ms f bs n) b ≡ Ok (next_key ms f bs n)
-stay_next_key ms f bs n i b e = step-moved i b mode.NextKey n [] (fields ms) (f ∷ bs) _ refl (is_true (white b) _ _ e)
+stay_next_key ms f bs n i b e = step-moved i b mode.NextKey n [] (fields ms) (f ∷ bs) _ refl (cond-true (white b) _ _ e)
 
 stay_colon : (ms : Members) (k : List ℕ) (f : Frame) (bs : List Frame) (n i b : ℕ) → white b ≡ true → step i (colon_at ms k f bs n) b ≡ Ok (colon_at ms k f bs n)
-stay_colon ms k f bs n i b e = step-moved i b mode.Colon n [] (field ms k) (f ∷ bs) _ refl (is_true (white b) _ _ e)
+stay_colon ms k f bs n i b e = step-moved i b mode.Colon n [] (field ms k) (f ∷ bs) _ refl (cond-true (white b) _ _ e)
 
 stay_after : (f : Frame) (bs : List Frame) (n i b : ℕ) → white b ≡ true → step i (after f bs n) b ≡ Ok (after f bs n)
-stay_after f bs n i b e = step-moved i b mode.After n [] f bs _ refl (is_true (white b) _ _ e)
+stay_after f bs n i b e = step-moved i b mode.After n [] f bs _ refl (cond-true (white b) _ _ e)
 
 -- ---- a value begins in a list as elsewhere
 
@@ -81,7 +81,7 @@ pub first_step : (f : Frame) (bs : List Frame) (n i b : ℕ) → starts b ≡ tr
 first_step f bs n i b e =
     let w : white b ≡ false = grind (arith, nat_tests) in
     let c : eqb b 93 ≡ false = grind (arith, nat_tests) in
-    let same : moved mode.First (surroundings i (kinds (items nil) (f ∷ bs)) n) b ≡ moved mode.Want (surroundings i (kinds (items nil) (f ∷ bs)) n) b = is_false (eqb b 93) _ _ c ∙ (is_false (white b) _ _ w ∙ sym (is_false (white b) _ _ w)) in
+    let same : moved mode.First (surroundings i (kinds (items nil) (f ∷ bs)) n) b ≡ moved mode.Want (surroundings i (kinds (items nil) (f ∷ bs)) n) b = cond-false (eqb b 93) _ _ c ∙ (cond-false (white b) _ _ w ∙ sym (cond-false (white b) _ _ w)) in
     step-moved i b mode.First n [] (items nil) (f ∷ bs) _ refl same ∙ (carried-any mode.First mode.Want n [] (items nil) (f ∷ bs) (moved mode.Want (surroundings i (kinds (items nil) (f ∷ bs)) n) b) ∙ sym (unsettled i b mode.Want n [] (items nil) (f ∷ bs) refl))
 
 -- the first byte of a value
@@ -158,9 +158,9 @@ module _ (N : ℕ) (P : Result Tree Fault → Type 0) where
   opening-run f bs n i b r rest F k c le is shallow few bad on eq =
       let Q : Moved → Type 0 = λ mv. P (then (carried mv (want f bs n)) (λ y. run y (i + 1) r)) in
       subst (λ z. P (then z (λ y. run y (i + 1) r))) (sym is)
-      (by_cond Q (leb 200 (length (kinds f bs))) _ _ (λ h. bad (λ fit. never (sym (shallow fit) ∙ (ap (leb 200) (sym (kinds-length f bs)) ∙ h))) (fault.Nested i) tt (omega arith))
-      (λ d. by_cond Q (leb 4096 n) _ _ (λ h. bad (λ fit. let lo = reached 4096 n h in let hi = few fit in omega arith) (fault.Crowded i) tt (omega arith))
-      (λ h. on (ap (leb 200) (sym (kinds-length f bs)) ∙ d) (below 4096 n h) (omega arith))))
+      (cond_both (leb 200 (length (kinds f bs))) _ _ Q (λ h. bad (λ fit. absurd (false≢true (sym (shallow fit) ∙ (ap (leb 200) (sym (kinds-length f bs)) ∙ h)))) (fault.Nested i) tt (omega arith))
+      (λ d. cond_both (leb 4096 n) _ _ Q (λ h. bad (λ fit. let lo = leb-true 4096 n h in let hi = few fit in omega arith) (fault.Crowded i) tt (omega arith))
+      (λ h. on (ap (leb 200) (sym (kinds-length f bs)) ∙ d) (leb-false 4096 n h) (omega arith))))
 
   beginning-run : (f : Frame) (bs : List Frame) (n i b : ℕ) (r rest : List ℕ) (F : Type 0) (k : Mode) → length rest ≤ length r
       → step i (want f bs n) b ≡ carried (beginning (surroundings i (kinds f bs) n) k) (want f bs n) → (F → n < 4096) → Bad F rest
@@ -168,8 +168,8 @@ module _ (N : ℕ) (P : Result Tree Fault → Type 0) where
   beginning-run f bs n i b r rest F k le is few bad on eq =
       let Q : Moved → Type 0 = λ mv. P (then (carried mv (want f bs n)) (λ y. run y (i + 1) r)) in
       subst (λ z. P (then z (λ y. run y (i + 1) r))) (sym is)
-      (by_cond Q (leb 4096 n) _ _ (λ h. bad (λ fit. let lo = reached 4096 n h in let hi = few fit in omega arith) (fault.Crowded i) tt (omega arith))
-      (λ h. on (below 4096 n h) (omega arith)))
+      (cond_both (leb 4096 n) _ _ Q (λ h. bad (λ fit. let lo = leb-true 4096 n h in let hi = few fit in omega arith) (fault.Crowded i) tt (omega arith))
+      (λ h. on (leb-false 4096 n h) (omega arith)))
 
   pub first_run : {s : List ℕ} (f : Frame) (bs : List Frame) (n i : ℕ) (rest : List ℕ) → Begun s → Goes N P (want (items nil) (f ∷ bs) n) i (s ++ rest) → Goes N P (first_in f bs n) i (s ++ rest)
   first_run {s} f bs n i rest h g =
@@ -202,38 +202,38 @@ module _ (N : ℕ) (P : Result Tree Fault → Type 0) where
         (λ lt eq. k (i + 1 + 1 + 1 + 1 + 1) (n + 1) refl (omega arith) refl (omega arith))
     value-run (Value.whole {g = g} {n = amount} {s = s} w) f bs n rest sp bad k i = λ eq.
         let lt : i + length rest < N = begun_lt N i s rest (begun_number (whole-opens w)) eq in
-        whole_run N P f bs n rest i w (λ un. bad (λ fit. never (sym fit.0 ∙ un)) (fault.Number i) tt lt)
-        (λ fits. number_stops N P f bs n g amount i rest sp (λ many. bad (λ fit. let lo = reached 4096 n many in let hi = fit.1 in omega arith) (fault.Crowded i) tt lt)
-        (λ few j. let h = below 4096 n few in k j (n + 1) refl (omega arith) fits)) eq
+        whole_run N P f bs n rest i w (λ un. bad (λ fit. absurd (false≢true (sym fit.0 ∙ un))) (fault.Number i) tt lt)
+        (λ fits. number_stops N P f bs n g amount i rest sp (λ many. bad (λ fit. let lo = leb-true 4096 n many in let hi = fit.1 in omega arith) (fault.Crowded i) tt lt)
+        (λ few j. let h = leb-false 4096 n few in k j (n + 1) refl (omega arith) fits)) eq
     value-run (Value.broken {s = s} r) f bs n rest sp bad k i = λ eq.
-        real_run N P f bs n rest i r (bad (λ fit. never (sym fit.0)) (fault.Number i) tt (begun_lt N i s rest (begun_number (real_opens r)) eq)) eq
+        real_run N P f bs n rest i r (bad (λ fit. absurd (false≢true (sym fit.0))) (fault.Number i) tt (begun_lt N i s rest (begun_number (real_opens r)) eq)) eq
     value-run (Value.string {cs = cs} {s = s} ch) f bs n rest sp bad k i =
         let quoted : List ℕ → State = λ t. made_of (mode.Text role.Value inside.Plain) (n + 1) t f bs in
         beginning-run f bs n i 34 ((s ++ 34 ∷ []) ++ rest) rest _ (mode.Text role.Value inside.Plain) (behind_le (s ++ 34 ∷ []) rest) refl (λ fit. let h = fit.1 in omega arith) bad
         (λ lt. subst (Goes N P (quoted []) (i + 1)) (sym (append_assoc s (34 ∷ []) rest))
         (chars_run N P role.Value (n + 1) f bs (34 ∷ rest) ch (λ j. go N P (quoted cs) (after (put f (Tree.text cs)) bs (n + 1)) j 34 rest refl (k (j + 1) (n + 1) refl (omega arith) refl)) (i + 1)))
     value-run (Value.empty_list {a = a} ba) f bs n rest sp bad k i =
-        opening-run f bs n i 91 ((a ++ 93 ∷ []) ++ rest) rest _ mode.First container.List (behind_le (a ++ 93 ∷ []) rest) refl (λ fit. no_left (leb 200 (length bs)) false fit.0) (λ fit. let h = fit.1 in omega arith) bad
+        opening-run f bs n i 91 ((a ++ 93 ∷ []) ++ rest) rest _ mode.First container.List (behind_le (a ++ 93 ∷ []) rest) refl (λ fit. (or_parts (leb 200 (length bs)) false fit.0).0) (λ fit. let h = fit.1 in omega arith) bad
         (λ shallow lt. subst (Goes N P (first_in f bs (n + 1)) (i + 1)) (sym (append_assoc a (93 ∷ []) rest))
         (blanks N P (first_in f bs (n + 1)) (93 ∷ rest) (stay_first f bs (n + 1)) ba
-        (λ j. go N P (first_in f bs (n + 1)) (after (put f (Tree.list nil)) bs (n + 1)) j 93 rest refl (k (j + 1) (n + 1) (omega arith) (omega arith) (or_false (leb 200 (length bs)) false shallow refl))) (i + 1)))
+        (λ j. go N P (first_in f bs (n + 1)) (after (put f (Tree.list nil)) bs (n + 1)) j 93 rest refl (k (j + 1) (n + 1) (omega arith) (omega arith) (or_from (leb 200 (length bs)) false shallow refl))) (i + 1)))
     value-run (Value.full_list {vs = vs} {s = s} el) f bs n rest sp bad k i =
-        opening-run f bs n i 91 ((s ++ 93 ∷ []) ++ rest) rest _ mode.First container.List (behind_le (s ++ 93 ∷ []) rest) refl (λ fit. no_left (leb 200 (length bs)) (overs (suc (length bs)) vs) fit.0) (λ fit. let h = fit.1 in omega arith) bad
+        opening-run f bs n i 91 ((s ++ 93 ∷ []) ++ rest) rest _ mode.First container.List (behind_le (s ++ 93 ∷ []) rest) refl (λ fit. (or_parts (leb 200 (length bs)) (overs (suc (length bs)) vs) fit.0).0) (λ fit. let h = fit.1 in omega arith) bad
         (λ shallow lt. subst (Goes N P (first_in f bs (n + 1)) (i + 1)) (sym (append_assoc s (93 ∷ []) rest))
         (elements-run el f bs (n + 1) (93 ∷ rest) refl
-        (bad_for (Fit (length bs) n (Tree.list vs)) (FitList (suc (length bs)) (n + 1) vs) rest (93 ∷ rest) bad (λ fit. (no_right (leb 200 (length bs)) (overs (suc (length bs)) vs) fit.0, let h = fit.1 in omega arith)) (omega arith))
-        (λ j m em le ov. go N P (after (items vs) (f ∷ bs) m) (after (put f (Tree.list vs)) bs m) j 93 rest refl (k (j + 1) m (omega arith) le (or_false (leb 200 (length bs)) (overs (suc (length bs)) vs) shallow ov))) (i + 1)))
+        (bad_for (Fit (length bs) n (Tree.list vs)) (FitList (suc (length bs)) (n + 1) vs) rest (93 ∷ rest) bad (λ fit. ((or_parts (leb 200 (length bs)) (overs (suc (length bs)) vs) fit.0).1, let h = fit.1 in omega arith)) (omega arith))
+        (λ j m em le ov. go N P (after (items vs) (f ∷ bs) m) (after (put f (Tree.list vs)) bs m) j 93 rest refl (k (j + 1) m (omega arith) le (or_from (leb 200 (length bs)) (overs (suc (length bs)) vs) shallow ov))) (i + 1)))
     value-run (Value.empty_object {a = a} ba) f bs n rest sp bad k i =
-        opening-run f bs n i 123 ((a ++ 125 ∷ []) ++ rest) rest _ mode.FirstKey container.Object (behind_le (a ++ 125 ∷ []) rest) refl (λ fit. no_left (leb 200 (length bs)) false fit.0) (λ fit. let h = fit.1 in omega arith) bad
+        opening-run f bs n i 123 ((a ++ 125 ∷ []) ++ rest) rest _ mode.FirstKey container.Object (behind_le (a ++ 125 ∷ []) rest) refl (λ fit. (or_parts (leb 200 (length bs)) false fit.0).0) (λ fit. let h = fit.1 in omega arith) bad
         (λ shallow lt. subst (Goes N P (first_key f bs (n + 1)) (i + 1)) (sym (append_assoc a (125 ∷ []) rest))
         (blanks N P (first_key f bs (n + 1)) (125 ∷ rest) (stay_first_key f bs (n + 1)) ba
-        (λ j. go N P (first_key f bs (n + 1)) (after (put f (Tree.object none)) bs (n + 1)) j 125 rest refl (k (j + 1) (n + 1) (omega arith) (omega arith) (or_false (leb 200 (length bs)) false shallow refl))) (i + 1)))
+        (λ j. go N P (first_key f bs (n + 1)) (after (put f (Tree.object none)) bs (n + 1)) j 125 rest refl (k (j + 1) (n + 1) (omega arith) (omega arith) (or_from (leb 200 (length bs)) false shallow refl))) (i + 1)))
     value-run (Value.full_object {ms = ms} {s = s} en) f bs n rest sp bad k i =
-        opening-run f bs n i 123 ((s ++ 125 ∷ []) ++ rest) rest _ mode.FirstKey container.Object (behind_le (s ++ 125 ∷ []) rest) refl (λ fit. no_left (leb 200 (length bs)) (over_members (suc (length bs)) ms) fit.0) (λ fit. let h = fit.1 in omega arith) bad
+        opening-run f bs n i 123 ((s ++ 125 ∷ []) ++ rest) rest _ mode.FirstKey container.Object (behind_le (s ++ 125 ∷ []) rest) refl (λ fit. (or_parts (leb 200 (length bs)) (over_members (suc (length bs)) ms) fit.0).0) (λ fit. let h = fit.1 in omega arith) bad
         (λ shallow lt. subst (Goes N P (first_key f bs (n + 1)) (i + 1)) (sym (append_assoc s (125 ∷ []) rest))
         (entries_run en f bs (n + 1) (125 ∷ rest) refl
-        (bad_for (Fit (length bs) n (Tree.object ms)) (FitObject (suc (length bs)) (n + 1) ms) rest (125 ∷ rest) bad (λ fit. (no_right (leb 200 (length bs)) (over_members (suc (length bs)) ms) fit.0, let h = fit.1 in omega arith)) (omega arith))
-        (λ j m em le ov. go N P (after (fields ms) (f ∷ bs) m) (after (put f (Tree.object ms)) bs m) j 125 rest refl (k (j + 1) m (omega arith) le (or_false (leb 200 (length bs)) (over_members (suc (length bs)) ms) shallow ov))) (i + 1)))
+        (bad_for (Fit (length bs) n (Tree.object ms)) (FitObject (suc (length bs)) (n + 1) ms) rest (125 ∷ rest) bad (λ fit. ((or_parts (leb 200 (length bs)) (over_members (suc (length bs)) ms) fit.0).1, let h = fit.1 in omega arith)) (omega arith))
+        (λ j m em le ov. go N P (after (fields ms) (f ∷ bs) m) (after (put f (Tree.object ms)) bs m) j 125 rest refl (k (j + 1) m (omega arith) le (or_from (leb 200 (length bs)) (over_members (suc (length bs)) ms) shallow ov))) (i + 1)))
 
     pub elements-run : {vs : Trees} {e : List ℕ} → Elements vs e → (f : Frame) (bs : List Frame) (n : ℕ) (rest : List ℕ) → Stops rest → Bad (FitList (suc (length bs)) n vs) rest
         → ((j m : ℕ) → m ≡ n + sizes vs → m ≤ 4096 → overs (suc (length bs)) vs ≡ false → Goes N P (after (items vs) (f ∷ bs) m) j rest) → (i : ℕ) → Goes N P (first_in f bs n) i (e ++ rest)
@@ -247,12 +247,12 @@ module _ (N : ℕ) (P : Result Tree Fault → Type 0) where
     elements-run (Elements.more {vs = vs} {v = v} {w = w} {a = a} {s = s} {b = b} el ba val bb) f bs n rest sp bad k i =
         subst (Goes N P (first_in f bs n) i) (join4 w (44 ∷ []) a s b rest)
         (elements-run el f bs n (44 ∷ (a ++ (s ++ (b ++ rest)))) refl
-        (bad_for (FitList (suc (length bs)) n (snoc vs v)) (FitList (suc (length bs)) n vs) rest (44 ∷ (a ++ (s ++ (b ++ rest)))) bad (λ fit. (no_left (overs (suc (length bs)) vs) (over (suc (length bs)) v) fit.0, let h = fit.1 in omega arith)) (omega (arith, behind_le b rest, behind_le s (b ++ rest), behind_le a (s ++ (b ++ rest)))))
+        (bad_for (FitList (suc (length bs)) n (snoc vs v)) (FitList (suc (length bs)) n vs) rest (44 ∷ (a ++ (s ++ (b ++ rest)))) bad (λ fit. ((or_parts (overs (suc (length bs)) vs) (over (suc (length bs)) v) fit.0).0, let h = fit.1 in omega arith)) (omega (arith, behind_le b rest, behind_le s (b ++ rest), behind_le a (s ++ (b ++ rest)))))
         (λ j m em le ov. go N P (after (items vs) (f ∷ bs) m) (want (items vs) (f ∷ bs) m) j 44 (a ++ (s ++ (b ++ rest))) refl
         (blanks N P (want (items vs) (f ∷ bs) m) (s ++ (b ++ rest)) (stay_want (items vs) (f ∷ bs) m) ba
         (value-run val (items vs) (f ∷ bs) m (b ++ rest) (blank_stops rest bb sp)
-        (bad_for (FitList (suc (length bs)) n (snoc vs v)) (Fit (suc (length bs)) m v) rest (b ++ rest) bad (λ fit. (no_right (overs (suc (length bs)) vs) (over (suc (length bs)) v) fit.0, let h = fit.1 in omega arith)) (behind_le b rest))
-        (λ j p ep lp op. blanks N P (after (items (snoc vs v)) (f ∷ bs) p) rest (stay_after (items (snoc vs v)) (f ∷ bs) p) bb (λ j. k j p (omega arith) lp (or_false (overs (suc (length bs)) vs) (over (suc (length bs)) v) ov op)) j)) (j + 1))) i)
+        (bad_for (FitList (suc (length bs)) n (snoc vs v)) (Fit (suc (length bs)) m v) rest (b ++ rest) bad (λ fit. ((or_parts (overs (suc (length bs)) vs) (over (suc (length bs)) v) fit.0).1, let h = fit.1 in omega arith)) (behind_le b rest))
+        (λ j p ep lp op. blanks N P (after (items (snoc vs v)) (f ∷ bs) p) rest (stay_after (items (snoc vs v)) (f ∷ bs) p) bb (λ j. k j p (omega arith) lp (or_from (overs (suc (length bs)) vs) (over (suc (length bs)) v) ov op)) j)) (j + 1))) i)
 
     pub entries_run : {ms : Members} {e : List ℕ} → Entries ms e → (f : Frame) (bs : List Frame) (n : ℕ) (rest : List ℕ) → Stops rest → Bad (FitObject (suc (length bs)) n ms) rest
         → ((j m : ℕ) → m ≡ n + member_sizes ms → m ≤ 4096 → over_members (suc (length bs)) ms ≡ false → Goes N P (after (fields ms) (f ∷ bs) m) j rest) → (i : ℕ) → Goes N P (first_key f bs n) i (e ++ rest)
@@ -266,13 +266,13 @@ module _ (N : ℕ) (P : Result Tree Fault → Type 0) where
     entries_run (Entries.further {ms = ms} {k = key} {v = v} {w = w} {n = m} {a = a} {s = s} {b = b} en na ba val bb) f bs n rest sp bad k i =
         subst (Goes N P (first_key f bs n) i) (join6 w (44 ∷ []) m a s b rest)
         (entries_run en f bs n (44 ∷ (m ++ (a ++ (s ++ (b ++ rest))))) refl
-        (bad_for (FitObject (suc (length bs)) n (with ms key v)) (FitObject (suc (length bs)) n ms) rest (44 ∷ (m ++ (a ++ (s ++ (b ++ rest))))) bad (λ fit. (no_left (over_members (suc (length bs)) ms) (over (suc (length bs)) v) fit.0, let h = fit.1 in omega arith)) (omega (arith, behind_le b rest, behind_le s (b ++ rest), behind_le a (s ++ (b ++ rest)), behind_le m (a ++ (s ++ (b ++ rest))))))
+        (bad_for (FitObject (suc (length bs)) n (with ms key v)) (FitObject (suc (length bs)) n ms) rest (44 ∷ (m ++ (a ++ (s ++ (b ++ rest))))) bad (λ fit. ((or_parts (over_members (suc (length bs)) ms) (over (suc (length bs)) v) fit.0).0, let h = fit.1 in omega arith)) (omega (arith, behind_le b rest, behind_le s (b ++ rest), behind_le a (s ++ (b ++ rest)), behind_le m (a ++ (s ++ (b ++ rest))))))
         (λ j q eq le ov. go N P (after (fields ms) (f ∷ bs) q) (next_key ms f bs q) j 44 (m ++ (a ++ (s ++ (b ++ rest)))) refl
         (name_run (next_key ms f bs q) ms f bs q (a ++ (s ++ (b ++ rest))) (stay_next_key ms f bs q) (λ i. refl) na
         (blanks N P (want (field ms key) (f ∷ bs) q) (s ++ (b ++ rest)) (stay_want (field ms key) (f ∷ bs) q) ba
         (value-run val (field ms key) (f ∷ bs) q (b ++ rest) (blank_stops rest bb sp)
-        (bad_for (FitObject (suc (length bs)) n (with ms key v)) (Fit (suc (length bs)) q v) rest (b ++ rest) bad (λ fit. (no_right (over_members (suc (length bs)) ms) (over (suc (length bs)) v) fit.0, let h = fit.1 in omega arith)) (behind_le b rest))
-        (λ j p ep lp op. blanks N P (after (fields (with ms key v)) (f ∷ bs) p) rest (stay_after (fields (with ms key v)) (f ∷ bs) p) bb (λ j. k j p (omega arith) lp (or_false (over_members (suc (length bs)) ms) (over (suc (length bs)) v) ov op)) j))) (j + 1))) i)
+        (bad_for (FitObject (suc (length bs)) n (with ms key v)) (Fit (suc (length bs)) q v) rest (b ++ rest) bad (λ fit. ((or_parts (over_members (suc (length bs)) ms) (over (suc (length bs)) v) fit.0).1, let h = fit.1 in omega arith)) (behind_le b rest))
+        (λ j p ep lp op. blanks N P (after (fields (with ms key v)) (f ∷ bs) p) rest (stay_after (fields (with ms key v)) (f ∷ bs) p) bb (λ j. k j p (omega arith) lp (or_from (over_members (suc (length bs)) ms) (over (suc (length bs)) v) ov op)) j))) (j + 1))) i)
 
   pub text_run : {v : Tree} {s : List ℕ} → Text v s → length s ≡ N → Bad (Fit 0 0 v) [] → (over 0 v ≡ false → size v ≤ 4096 → P (Ok v)) → P (run start 0 s)
   text_run (Text.whole {v = v} {a = a} {s = s} {b = b} ba val bb) long bad ok =

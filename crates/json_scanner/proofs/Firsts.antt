@@ -1,5 +1,6 @@
 -- Each fault of a text is counted, unless one before it is.
-use Rattle.std.proofs.Common.{◌≡◌, ℕ, suc, ◌+◌, ◌-◌, ◌<◌, ◌≤◌, Bool, true, false, ◌||◌, eqb, ltb, leb, ◌⊎◌, List, [], ◌∷◌, ◌++◌, length, take, drop, Ok, Err, Result, sym, refl, ap, ◌∙◌, subst, inl, inr, append_assoc, arith, length-append, eqb-true}
+use Rattle.std.proofs.Common.{◌≡◌, ℕ, suc, ◌+◌, ◌-◌, ◌<◌, ◌≤◌, true, false, ◌||◌, eqb, leb, ◌⊎◌, List, [], ◌∷◌, ◌++◌, length, take, drop, Ok, Err, Result, sym, refl, ap, ◌∙◌, subst, inl, inr, append_assoc, arith, length-append, eqb-true}
+use Rattle.std.proofs.lemmas.Bool.{cond_both, cond-true, or_from, or_cases, le-leb, cases_lt, false≢true}
 use Rattle.std.proofs.lemmas.Bool.Decides.{nat_tests}
 use Rattle.std.proofs.lemmas.List.{take-take, take-append-drop}
 use Rattle.std.specs.Char.{is_ascii_digit}
@@ -18,9 +19,7 @@ use Rattle.json_scanner.specs.Grammar.{Tree, nil, none, white, Blank, Numeral, W
 use Rattle.json_scanner.specs.Bytes.{Moved, opening, beginning, judged, broken_off, figured, figure, settled, readied, still, then}
 use Rattle.json_scanner.specs.Machine.{State, Frame, bare, items, fields, field, kinds, surroundings, carried, stepped, step, prepared, ended, run, start}
 use Rattle.json_scanner.specs.Faults.{place_of, number_of, CountsFirst, Inner, Place, top, within, values_before, starts, Unfit, Breaks, Nests, Misfits, Crowds, Faulty}
-use Rattle.json_scanner.proofs.Cases.{reaches, by_cond, is_true, never, or_false}
 use Rattle.json_scanner.proofs.Numbers.{Opens, whole-opens, real_opens, opens-starts}
-use Rattle.json_scanner.proofs.Strings.{way}
 use Rattle.json_scanner.proofs.Shape.{Right, kinds-length}
 use Rattle.json_scanner.proofs.Sound.{value_viable, viable_prefix}
 use Rattle.json_scanner.proofs.Goes.{Goes, go, blanks, unsettled}
@@ -93,7 +92,7 @@ place-run N P rest h (within {f = f} {g = g} {bs = bs} {u = u} {w = w} pl inn) a
 
 module _ (P : Result Tree Fault → Type 0) (from : ℕ) (f : Frame) (bs : List Frame) (n : ℕ) (many : leb 4096 n ≡ true) (misfit : P (Err (fault.Number from))) (crowded : P (Err (fault.Crowded from))) where
   broken : (i : ℕ) → P (Err (broken_off n from i))
-  broken i = subst (λ x. P (Err x)) (sym (is_true (leb 4096 n) _ _ many)) crowded
+  broken i = subst (λ x. P (Err x)) (sym (cond-true (leb 4096 n) _ _ many)) crowded
 
   judged_crowded : (i : ℕ) (s : List ℕ) (v : Result Figures NumberError) (g : Figures) → ((x : Figures) → P (run (numbering x from f bs n) (i + 1) s)) → P (then (carried (judged v n from i) (numbering g from f bs n)) (λ y. run y (i + 1) s))
   judged_crowded i s (Ok x) g ih = ih x
@@ -103,7 +102,7 @@ module _ (P : Result Tree Fault → Type 0) (from : ℕ) (f : Frame) (bs : List 
   -- the end of an integer, or none
   settled_crowded : (g : Figures) (k : Ready → Result Tree Fault) → P (k (still (mode.Number g from) n)) → P (then (settled (mode.Number g from) n) k)
   settled_crowded figures.Minus k h = h
-  settled_crowded (figures.Whole x y) k h = subst (λ r. P (then r k)) (sym (is_true (leb 4096 n) _ _ many)) crowded
+  settled_crowded (figures.Whole x y) k h = subst (λ r. P (then r k)) (sym (cond-true (leb 4096 n) _ _ many)) crowded
   settled_crowded figures.Point k h = h
   settled_crowded figures.Power k h = h
   settled_crowded figures.Sign k h = h
@@ -119,7 +118,7 @@ module _ (P : Result Tree Fault → Type 0) (from : ℕ) (f : Frame) (bs : List 
       let here : P (then (stepped i st b) (λ y. run y (i + 1) s)) = judged_crowded i s (figured g b) g (λ x. number_crowded s x (i + 1)) in
       let k : Ready → Result Tree Fault = λ r. then (stepped i (prepared r st) b) (λ y. run y (i + 1) s) in
       subst P (sym (then-then (readied b (mode.Number g from) n) (λ r. stepped i (prepared r st) b) (λ y. run y (i + 1) s)))
-      (by_cond (λ r. P (then r k)) (figure b) _ _ (λ _. here) (λ _. settled_crowded g k here))
+      (cond_both (figure b) _ _ (λ r. P (then r k)) (λ _. here) (λ _. settled_crowded g k here))
 
 -- ---- the faults
 
@@ -133,19 +132,15 @@ counted_early g q lt = (q, refl, inl lt)
 counted_here : (g q : Fault) → place_of q ≡ place_of g → number_of q ≤ number_of g → Counted g (Err q)
 counted_here g q e le = (q, refl, inr (e, le))
 
-or_cases : (x y : Bool) → (x || y) ≡ true → (x ≡ true) ⊎ (y ≡ true)
-or_cases true y e = inl refl
-or_cases false y e = inr e
-
 bracket_starts : (b : ℕ) → (eqb b 91 || eqb b 123) ≡ true → starts b ≡ true
 bracket_starts b e = grind (arith, nat_tests)
 
 -- a bracket in 200 others
 deep_step : (f : Frame) (bs : List Frame) (m j b : ℕ) → 200 ≤ length bs → (eqb b 91 ≡ true) ⊎ (eqb b 123 ≡ true) → step j (want f bs m) b ≡ Err (fault.Nested j)
 deep_step f bs m j b deep (inl e) =
-    subst (λ x. step j (want f bs m) x ≡ Err (fault.Nested j)) (sym (eqb-true b 91 e)) (ap (λ mv. carried mv (want f bs m)) (is_true (leb 200 (length (kinds f bs))) _ _ (ap (leb 200) (kinds-length f bs) ∙ reaches 200 (length bs) deep)))
+    subst (λ x. step j (want f bs m) x ≡ Err (fault.Nested j)) (sym (eqb-true b 91 e)) (ap (λ mv. carried mv (want f bs m)) (cond-true (leb 200 (length (kinds f bs))) _ _ (ap (leb 200) (kinds-length f bs) ∙ le-leb 200 (length bs) deep)))
 deep_step f bs m j b deep (inr e) =
-    subst (λ x. step j (want f bs m) x ≡ Err (fault.Nested j)) (sym (eqb-true b 123 e)) (ap (λ mv. carried mv (want f bs m)) (is_true (leb 200 (length (kinds f bs))) _ _ (ap (leb 200) (kinds-length f bs) ∙ reaches 200 (length bs) deep)))
+    subst (λ x. step j (want f bs m) x ≡ Err (fault.Nested j)) (sym (eqb-true b 123 e)) (ap (λ mv. carried mv (want f bs m)) (cond-true (leb 200 (length (kinds f bs))) _ _ (ap (leb 200) (kinds-length f bs) ∙ le-leb 200 (length bs) deep)))
 
 nested_first : (s : List ℕ) (p : ℕ) → Nests s p → Counted (fault.Nested p) (run start 0 s)
 nested_first s p h =
@@ -163,7 +158,7 @@ unfit-opens (inl x) = whole-opens x.2
 unfit-opens (inr r) = real_opens r
 
 unfit-run : (N : ℕ) (P : Result Tree Fault → Type 0) (f : Frame) (bs : List Frame) (m j : ℕ) (d rest : List ℕ) → Unfit d → P (Err (fault.Number j)) → Goes N P (want f bs m) j (d ++ rest)
-unfit-run N P f bs m j d rest (inl x) bad = whole_run N P f bs m rest j x.2 (λ _. bad) (λ fit. never (sym fit ∙ x.3))
+unfit-run N P f bs m j d rest (inl x) bad = whole_run N P f bs m rest j x.2 (λ _. bad) (λ fit. absurd (false≢true (sym fit ∙ x.3)))
 unfit-run N P f bs m j d rest (inr r) bad = real_run N P f bs m rest j r bad
 
 number_first : (s : List ℕ) (p : ℕ) → Misfits s p → Counted (fault.Number p) (run start 0 s)
@@ -182,19 +177,19 @@ number_first s p h =
 crowded_begins : (P : Result Tree Fault → Type 0) (f : Frame) (bs : List Frame) (n j b : ℕ) (r : List ℕ) → starts b ≡ true → leb 4096 n ≡ true → P (Err (fault.Nested j)) → P (Err (fault.Number j)) → P (Err (fault.Crowded j)) → P (run (want f bs n) j (b ∷ r))
 crowded_begins P f bs n j b r st many nested misfit crowded =
     let Q : Moved → Type 0 = λ mv. P (then (carried mv (want f bs n)) (λ y. run y (j + 1) r)) in
-    let opens : (m : Mode) (c : Container) → Q (opening (surroundings j (kinds f bs) n) m c) = λ m c. by_cond Q (leb 200 (length (kinds f bs))) _ _ (λ _. nested) (λ _. by_cond Q (leb 4096 n) _ _ (λ _. crowded) (λ e. never (sym e ∙ many))) in
-    let scalar : (m : Mode) → Q (beginning (surroundings j (kinds f bs) n) m) = λ m. by_cond Q (leb 4096 n) _ _ (λ _. crowded) (λ e. never (sym e ∙ many)) in
+    let opens : (m : Mode) (c : Container) → Q (opening (surroundings j (kinds f bs) n) m c) = λ m c. cond_both (leb 200 (length (kinds f bs))) _ _ Q (λ _. nested) (λ _. cond_both (leb 4096 n) _ _ Q (λ _. crowded) (λ e. absurd (false≢true (sym e ∙ many)))) in
+    let scalar : (m : Mode) → Q (beginning (surroundings j (kinds f bs) n) m) = λ m. cond_both (leb 4096 n) _ _ Q (λ _. crowded) (λ e. absurd (false≢true (sym e ∙ many))) in
     subst (λ z. P (then z (λ y. run y (j + 1) r))) (sym (unsettled j b mode.Want n [] f bs refl))
-    (by_cond Q (white b) _ _ (λ w. let z : starts b ≡ false = grind (arith, nat_tests) in never (sym z ∙ st))
-    (λ _. by_cond Q (eqb b 91) _ _ (λ _. opens mode.First container.List)
-    (λ x91. by_cond Q (eqb b 123) _ _ (λ _. opens mode.FirstKey container.Object)
-    (λ x123. by_cond Q (eqb b 45) _ _ (λ _. number_crowded P j f bs n many misfit crowded r figures.Minus (j + 1))
-    (λ x45. by_cond Q (is_ascii_digit b) _ _ (λ _. number_crowded P j f bs n many misfit crowded r (figures.Whole false (b - 48)) (j + 1))
-    (λ xd. by_cond Q (eqb b 34) _ _ (λ _. scalar _)
-    (λ x34. by_cond Q (eqb b 110) _ _ (λ _. scalar _)
-    (λ x110. by_cond Q (eqb b 116) _ _ (λ _. scalar _)
-    (λ x116. by_cond Q (eqb b 102) _ _ (λ _. scalar _)
-    (λ x102. never (sym (or_false (is_ascii_digit b) _ xd (or_false (eqb b 45) _ x45 (or_false (eqb b 34) _ x34 (or_false (eqb b 91) _ x91 (or_false (eqb b 123) _ x123 (or_false (eqb b 110) _ x110 (or_false (eqb b 116) _ x116 x102))))))) ∙ st)))))))))))
+    (cond_both (white b) _ _ Q (λ w. let z : starts b ≡ false = grind (arith, nat_tests) in absurd (false≢true (sym z ∙ st)))
+    (λ _. cond_both (eqb b 91) _ _ Q (λ _. opens mode.First container.List)
+    (λ x91. cond_both (eqb b 123) _ _ Q (λ _. opens mode.FirstKey container.Object)
+    (λ x123. cond_both (eqb b 45) _ _ Q (λ _. number_crowded P j f bs n many misfit crowded r figures.Minus (j + 1))
+    (λ x45. cond_both (is_ascii_digit b) _ _ Q (λ _. number_crowded P j f bs n many misfit crowded r (figures.Whole false (b - 48)) (j + 1))
+    (λ xd. cond_both (eqb b 34) _ _ Q (λ _. scalar _)
+    (λ x34. cond_both (eqb b 110) _ _ Q (λ _. scalar _)
+    (λ x110. cond_both (eqb b 116) _ _ Q (λ _. scalar _)
+    (λ x116. cond_both (eqb b 102) _ _ Q (λ _. scalar _)
+    (λ x102. absurd (false≢true (sym (or_from (is_ascii_digit b) _ xd (or_from (eqb b 45) _ x45 (or_from (eqb b 34) _ x34 (or_from (eqb b 91) _ x91 (or_from (eqb b 123) _ x123 (or_from (eqb b 110) _ x110 (or_from (eqb b 116) _ x116 x102))))))) ∙ st))))))))))))
 
 crowded_first : (s : List ℕ) (p : ℕ) → Crowds s p → Counted (fault.Crowded p) (run start 0 s)
 crowded_first s p h =
@@ -204,7 +199,7 @@ crowded_first s p h =
     let long : length all ≡ length h.before + suc (length h.rest) = length-append h.before (h.b ∷ h.rest) in
     subst (λ l. Counted g (run start 0 l)) (sym h.split)
     (place-run (length all) (Counted g) (h.b ∷ h.rest) (h.b, h.rest, h.begins, refl) h.wanted (λ q so lt. counted_early g q (omega arith))
-    (λ j m em eq. crowded_begins (Counted g) h.f h.bs m j h.b h.rest h.begins (ap (leb 4096) em ∙ reaches 4096 (values_before h.f h.bs) h.many)
+    (λ j m em eq. crowded_begins (Counted g) h.f h.bs m j h.b h.rest h.begins (ap (leb 4096) em ∙ le-leb 4096 (values_before h.f h.bs) h.many)
     (counted_here g (fault.Nested j) (omega arith) (omega arith)) (counted_here g (fault.Number j) (omega arith) (omega arith)) (counted_here g (fault.Crowded j) (omega arith) (omega arith)))
     (omega arith))
 
@@ -272,13 +267,6 @@ viable_take m n s le h = viable_prefix (take m s) (drop m (take n s)) (subst Via
 after_break : (s : List ℕ) (p q : ℕ) → Breaks s p → q < length s → Viable (take (q + 1) s) → p ≤ q → ⊥
 after_break s p q h lt v le = h.no_more (omega arith) (viable_take (p + 1) (q + 1) s (omega arith) v)
 
-order : (p q : ℕ) → (q < p) ⊎ (p ≤ q)
-order p q = by_test (way (ltb q p))
-  where
-    by_test : (ltb q p ≡ true) ⊎ (ltb q p ≡ false) → (q < p) ⊎ (p ≤ q)
-    by_test (inl e) = inl (grind (arith, nat_tests))
-    by_test (inr e) = inr (grind (arith, nat_tests))
-
 soft_early : (s : List ℕ) (p : ℕ) (f : Fault) → Breaks s p → Starts s (place_of f) → (place_of f < p) ⊎ (p ≤ place_of f) → CountsFirst f (fault.Malformed p)
 soft_early s p f h st (inl lt) = inl lt
 soft_early s p f h st (inr le) = absurd (after_break s p (place_of f) h st.within st.far le)
@@ -289,14 +277,14 @@ break_le s p q h k (inr le) = le
 break_le s p q h k (inl lt) = absurd (k.no_more (let a = h.inside in omega arith) (viable_take (q + 1) p s (omega arith) h.so_far))
 
 pub one_break : (s : List ℕ) (p q : ℕ) → Breaks s p → Breaks s q → p ≡ q
-one_break s p q h k = let a = break_le s p q h k (order p q) in let b = break_le s q p k h (order q p) in omega arith
+one_break s p q h k = let a = break_le s p q h k (cases_lt q p) in let b = break_le s q p k h (cases_lt p q) in omega arith
 
 malformed_first : (s : List ℕ) (p : ℕ) (r : Result Tree Fault) → run start 0 s ≡ r → Breaks s p → Counted (fault.Malformed p) r
 malformed_first s p (Ok v) e h = absurd (h.no_text v (sound s v e))
 malformed_first s p (Err (fault.Malformed q)) e h = let same = one_break s p q h (malformed s q e) in counted_here (fault.Malformed p) (fault.Malformed q) (omega arith) (omega arith)
-malformed_first s p (Err (fault.Nested q)) e h = (fault.Nested q, refl, soft_early s p (fault.Nested q) h (right_starts s (fault.Nested q) tt (stands s (fault.Nested q) e)) (order p q))
-malformed_first s p (Err (fault.Number q)) e h = (fault.Number q, refl, soft_early s p (fault.Number q) h (right_starts s (fault.Number q) tt (stands s (fault.Number q) e)) (order p q))
-malformed_first s p (Err (fault.Crowded q)) e h = (fault.Crowded q, refl, soft_early s p (fault.Crowded q) h (right_starts s (fault.Crowded q) tt (stands s (fault.Crowded q) e)) (order p q))
+malformed_first s p (Err (fault.Nested q)) e h = (fault.Nested q, refl, soft_early s p (fault.Nested q) h (right_starts s (fault.Nested q) tt (stands s (fault.Nested q) e)) (cases_lt q p))
+malformed_first s p (Err (fault.Number q)) e h = (fault.Number q, refl, soft_early s p (fault.Number q) h (right_starts s (fault.Number q) tt (stands s (fault.Number q) e)) (cases_lt q p))
+malformed_first s p (Err (fault.Crowded q)) e h = (fault.Crowded q, refl, soft_early s p (fault.Crowded q) h (right_starts s (fault.Crowded q) tt (stands s (fault.Crowded q) e)) (cases_lt q p))
 
 -- a text with a fault is refused for it, or for one that counts before it
 pub first_fault : (s : List ℕ) (g : Fault) → Faulty s g → Counted g (run start 0 s)

@@ -1,6 +1,7 @@
 -- Runs from a state, a byte at a time.
 use Rattle.std.proofs.Common.{◌≡◌, ℕ, ◌+◌, ◌<◌, true, false, cond, ◌&&◌, eqb, leb, List, [], ◌∷◌, ◌++◌, length, Some, None, Ok, Err, Option, Result, sym, refl, ap, ◌∙◌, subst, append_assoc, arith}
 use lib.Utf8.{scalar}
+use Rattle.std.proofs.lemmas.Bool.{cond_both, cond-true, cond-false}
 use Rattle.std.proofs.lemmas.Bool.Decides.{nat_tests}
 use Rattle.json_scanner.specs.declared.modes.Role.{Role}
 use Rattle.json_scanner.specs.declared.modes.Tail.TheVariants as tails
@@ -15,7 +16,6 @@ use Rattle.json_scanner.specs.declared.modes.Fault.{Fault}
 use Rattle.json_scanner.specs.Grammar.{Tree, white, plain, lead2, lead3, lead4, tail, second, hex, hexed, unit, pair, high, low, surrogate, Blank, Raw, CodeUnit, Character, Chars}
 use Rattle.json_scanner.specs.Bytes.{Moved, moved, goes, noted, act_of, spelled, spells, led, escaped_by, united, closing, figure, settled, still, then}
 use Rattle.json_scanner.specs.Machine.{State, Frame, kinds, surroundings, performed, carried, stepped, step, prepared, run}
-use Rattle.json_scanner.proofs.Cases.{is_true, is_false, cond_same}
 use Rattle.json_scanner.proofs.Strings.{added, hex_small, unit_small}
 use Rattle.json_scanner.proofs.Shape.{made_of}
 
@@ -33,7 +33,7 @@ blank_stops rest (Blank.more {w = w} b bl e) sp = subst Stops (sym (append_assoc
 
 -- no number ends here
 pub unsettled : (i b : ℕ) (m : Mode) (n : ℕ) (cs : List ℕ) (f : Frame) (bs : List Frame) → settled m n ≡ Ok (still m n) → step i (made_of m n cs f bs) b ≡ stepped i (made_of m n cs f bs) b
-unsettled i b m n cs f bs h = ap (λ r. then r (λ q. stepped i (prepared q (made_of m n cs f bs)) b)) (ap (λ x. cond (figure b) (Ok (still m n)) x) h ∙ cond_same (figure b) (Ok (still m n)))
+unsettled i b m n cs f bs h = ap (λ r. then r (λ q. stepped i (prepared q (made_of m n cs f bs)) b)) (ap (λ x. cond (figure b) (Ok (still m n)) x) h ∙ cond_both (figure b) _ _ (λ x. x ≡ Ok (still m n)) (λ _. refl) (λ _. refl))
 
 pub step-moved : (i b : ℕ) (m : Mode) (n : ℕ) (cs : List ℕ) (f : Frame) (bs : List Frame) (mv : Moved) → settled m n ≡ Ok (still m n) → moved m (surroundings i (kinds f bs) n) b ≡ mv → step i (made_of m n cs f bs) b ≡ carried mv (made_of m n cs f bs)
 step-moved i b m n cs f bs mv h e = unsettled i b m n cs f bs h ∙ ap (λ x. carried x (made_of m n cs f bs)) e
@@ -45,7 +45,7 @@ performed_piece r x y n cs f bs (Some p) = refl
 text_step : (r : Role) (x y : Inside) (p : Option Piece) (i b n : ℕ) (cs : List ℕ) (f : Frame) (bs : List Frame) → closing x b ≡ false → spelled x b ≡ spells y p
     → step i (made_of (mode.Text r x) n cs f bs) b ≡ Ok (made_of (mode.Text r y) n (added cs p) f bs)
 text_step r x y p i b n cs f bs c e =
-    step-moved i b (mode.Text r x) n cs f bs (goes (mode.Text r y) (act_of p)) refl (is_false (closing x b) _ _ c ∙ ap (λ s. noted r s i) e) ∙ ap Ok (performed_piece r x y n cs f bs p)
+    step-moved i b (mode.Text r x) n cs f bs (goes (mode.Text r y) (act_of p)) refl (cond-false (closing x b) _ _ c ∙ ap (λ s. noted r s i) e) ∙ ap Ok (performed_piece r x y n cs f bs p)
 
 -- ---- code units, by their digits
 
@@ -80,20 +80,20 @@ lead4_quote : (b : ℕ) → lead4 b ≡ true → eqb b 34 ≡ false
 lead4_quote b e = grind (arith, nat_tests)
 
 led2 : (b : ℕ) → lead2 b ≡ true → led b ≡ spells (inside.Raw tails.One) (Some (piece.Byte b))
-led2 b e = let p : plain b ≡ false = grind (arith, nat_tests) in is_false (plain b) _ _ p ∙ is_true (lead2 b) _ _ e
+led2 b e = let p : plain b ≡ false = grind (arith, nat_tests) in cond-false (plain b) _ _ p ∙ cond-true (lead2 b) _ _ e
 
 led3 : (b : ℕ) → lead3 b ≡ true → led b ≡ spells (inside.Raw (tails.SecondOfThree b)) (Some (piece.Byte b))
 led3 b e =
     let p : plain b ≡ false = grind (arith, nat_tests) in
     let q : lead2 b ≡ false = grind (arith, nat_tests) in
-    is_false (plain b) _ _ p ∙ (is_false (lead2 b) _ _ q ∙ is_true (lead3 b) _ _ e)
+    cond-false (plain b) _ _ p ∙ (cond-false (lead2 b) _ _ q ∙ cond-true (lead3 b) _ _ e)
 
 led4 : (b : ℕ) → lead4 b ≡ true → led b ≡ spells (inside.Raw (tails.SecondOfFour b)) (Some (piece.Byte b))
 led4 b e =
     let p : plain b ≡ false = grind (arith, nat_tests) in
     let q : lead2 b ≡ false = grind (arith, nat_tests) in
     let r : lead3 b ≡ false = grind (arith, nat_tests) in
-    is_false (plain b) _ _ p ∙ (is_false (lead2 b) _ _ q ∙ (is_false (lead3 b) _ _ r ∙ is_true (lead4 b) _ _ e))
+    cond-false (plain b) _ _ p ∙ (cond-false (lead2 b) _ _ q ∙ (cond-false (lead3 b) _ _ r ∙ cond-true (lead4 b) _ _ e))
 
 -- ---- what holds of the outcome of the rest holds of the outcome of the whole; N is the length of the text
 
@@ -120,24 +120,24 @@ module _ (N : ℕ) (P : Result Tree Fault → Type 0) where
     text_go x y p cs b rest c e k j = go (texting x cs) (texting y (added cs p)) j b rest (text_step r x y p j b n cs f bs c e) (k (j + 1))
 
     raw_run : {w : List ℕ} (cs rest : List ℕ) → Raw w → ((j : ℕ) → Goes (texting inside.Plain (cs ++ w)) j rest) → (j : ℕ) → Goes (texting inside.Plain cs) j (w ++ rest)
-    raw_run cs rest (Raw.one b e) k = text_go inside.Plain inside.Plain (Some (piece.Byte b)) cs b rest (plain_quote b e) (is_true (plain b) _ _ e) k
+    raw_run cs rest (Raw.one b e) k = text_go inside.Plain inside.Plain (Some (piece.Byte b)) cs b rest (plain_quote b e) (cond-true (plain b) _ _ e) k
     raw_run cs rest (Raw.two a b e h) k =
         text_go inside.Plain (inside.Raw tails.One) (Some (piece.Byte a)) cs a (b ∷ rest) (lead2_quote a e) (led2 a e)
-        (text_go (inside.Raw tails.One) inside.Plain (Some (piece.Byte b)) (cs ++ a ∷ []) b rest refl (is_true (tail b) _ _ h)
+        (text_go (inside.Raw tails.One) inside.Plain (Some (piece.Byte b)) (cs ++ a ∷ []) b rest refl (cond-true (tail b) _ _ h)
         (λ j. subst (λ l. Goes (texting inside.Plain l) j rest) (sym (append_assoc cs (a ∷ []) (b ∷ []))) (k j)))
     raw_run cs rest (Raw.three a b c e s h) k =
         text_go inside.Plain (inside.Raw (tails.SecondOfThree a)) (Some (piece.Byte a)) cs a (b ∷ c ∷ rest) (lead3_quote a e) (led3 a e)
-        (text_go (inside.Raw (tails.SecondOfThree a)) (inside.Raw tails.One) (Some (piece.Byte b)) (cs ++ a ∷ []) b (c ∷ rest) refl (is_true (second a b) _ _ s)
-        (text_go (inside.Raw tails.One) inside.Plain (Some (piece.Byte c)) ((cs ++ a ∷ []) ++ b ∷ []) c rest refl (is_true (tail c) _ _ h)
+        (text_go (inside.Raw (tails.SecondOfThree a)) (inside.Raw tails.One) (Some (piece.Byte b)) (cs ++ a ∷ []) b (c ∷ rest) refl (cond-true (second a b) _ _ s)
+        (text_go (inside.Raw tails.One) inside.Plain (Some (piece.Byte c)) ((cs ++ a ∷ []) ++ b ∷ []) c rest refl (cond-true (tail c) _ _ h)
         (λ j. subst (λ l. Goes (texting inside.Plain l) j rest) (joins3 cs (a ∷ []) (b ∷ []) (c ∷ [])) (k j))))
       where
         joins3 : (x y z w : List ℕ) → x ++ (y ++ (z ++ w)) ≡ ((x ++ y) ++ z) ++ w
         joins3 x y z w = simp append_assoc
     raw_run cs rest (Raw.four a b c d e s h g) k =
         text_go inside.Plain (inside.Raw (tails.SecondOfFour a)) (Some (piece.Byte a)) cs a (b ∷ c ∷ d ∷ rest) (lead4_quote a e) (led4 a e)
-        (text_go (inside.Raw (tails.SecondOfFour a)) (inside.Raw tails.Two) (Some (piece.Byte b)) (cs ++ a ∷ []) b (c ∷ d ∷ rest) refl (is_true (second a b) _ _ s)
-        (text_go (inside.Raw tails.Two) (inside.Raw tails.One) (Some (piece.Byte c)) ((cs ++ a ∷ []) ++ b ∷ []) c (d ∷ rest) refl (is_true (tail c) _ _ h)
-        (text_go (inside.Raw tails.One) inside.Plain (Some (piece.Byte d)) (((cs ++ a ∷ []) ++ b ∷ []) ++ c ∷ []) d rest refl (is_true (tail d) _ _ g)
+        (text_go (inside.Raw (tails.SecondOfFour a)) (inside.Raw tails.Two) (Some (piece.Byte b)) (cs ++ a ∷ []) b (c ∷ d ∷ rest) refl (cond-true (second a b) _ _ s)
+        (text_go (inside.Raw tails.Two) (inside.Raw tails.One) (Some (piece.Byte c)) ((cs ++ a ∷ []) ++ b ∷ []) c (d ∷ rest) refl (cond-true (tail c) _ _ h)
+        (text_go (inside.Raw tails.One) inside.Plain (Some (piece.Byte d)) (((cs ++ a ∷ []) ++ b ∷ []) ++ c ∷ []) d rest refl (cond-true (tail d) _ _ g)
         (λ j. subst (λ l. Goes (texting inside.Plain l) j rest) (joins4 cs (a ∷ []) (b ∷ []) (c ∷ []) (d ∷ [])) (k j)))))
       where
         joins4 : (x y z w v : List ℕ) → x ++ (y ++ (z ++ (w ++ v))) ≡ (((x ++ y) ++ z) ++ w) ++ v
@@ -149,10 +149,10 @@ module _ (N : ℕ) (P : Result Tree Fault → Type 0) where
     unit-run cs a b c d y p rest ha hb hc hd f12 e k =
         text_go inside.Plain inside.Escape None cs 92 (117 ∷ a ∷ b ∷ c ∷ d ∷ rest) refl refl
         (text_go inside.Escape (inside.Unit hexes.Zero) None cs 117 (a ∷ b ∷ c ∷ d ∷ rest) refl refl
-        (text_go (inside.Unit hexes.Zero) (inside.Unit (hexes.One (hexed a))) None cs a (b ∷ c ∷ d ∷ rest) refl (is_true (hex a) _ _ ha)
-        (text_go (inside.Unit (hexes.One (hexed a))) (inside.Unit (hexes.Two (hexed a) (hexed b))) None cs b (c ∷ d ∷ rest) refl (is_true (hex b) _ _ hb ∙ is_false (eqb (hexed a) 13 && leb 12 (hexed b)) _ _ f12)
-        (text_go (inside.Unit (hexes.Two (hexed a) (hexed b))) (inside.Unit (hexes.Three (hexed a) (hexed b) (hexed c))) None cs c (d ∷ rest) refl (is_true (hex c) _ _ hc)
-        (text_go (inside.Unit (hexes.Three (hexed a) (hexed b) (hexed c))) y p cs d rest refl (is_true (hex d) _ _ hd ∙ e) k)))))
+        (text_go (inside.Unit hexes.Zero) (inside.Unit (hexes.One (hexed a))) None cs a (b ∷ c ∷ d ∷ rest) refl (cond-true (hex a) _ _ ha)
+        (text_go (inside.Unit (hexes.One (hexed a))) (inside.Unit (hexes.Two (hexed a) (hexed b))) None cs b (c ∷ d ∷ rest) refl (cond-true (hex b) _ _ hb ∙ cond-false (eqb (hexed a) 13 && leb 12 (hexed b)) _ _ f12)
+        (text_go (inside.Unit (hexes.Two (hexed a) (hexed b))) (inside.Unit (hexes.Three (hexed a) (hexed b) (hexed c))) None cs c (d ∷ rest) refl (cond-true (hex c) _ _ hc)
+        (text_go (inside.Unit (hexes.Three (hexed a) (hexed b) (hexed c))) y p cs d rest refl (cond-true (hex d) _ _ hd ∙ e) k)))))
 
     -- the low surrogate behind a high one
     low_run : (cs : List ℕ) (h a b c d : ℕ) (rest : List ℕ) → hex a ≡ true → hex b ≡ true → hex c ≡ true → hex d ≡ true → eqb (hexed a) 13 ≡ true → leb 12 (hexed b) ≡ true
@@ -160,10 +160,10 @@ module _ (N : ℕ) (P : Result Tree Fault → Type 0) where
     low_run cs h a b c d rest ha hb hc hd e13 e12 k =
         text_go (inside.High h) (inside.HighEscape h) None cs 92 (117 ∷ a ∷ b ∷ c ∷ d ∷ rest) refl refl
         (text_go (inside.HighEscape h) (inside.Low h hexes.Zero) None cs 117 (a ∷ b ∷ c ∷ d ∷ rest) refl refl
-        (text_go (inside.Low h hexes.Zero) (inside.Low h (hexes.One (hexed a))) None cs a (b ∷ c ∷ d ∷ rest) refl (is_true (hex a) _ _ ha ∙ is_true (eqb (hexed a) 13) _ _ e13)
-        (text_go (inside.Low h (hexes.One (hexed a))) (inside.Low h (hexes.Two (hexed a) (hexed b))) None cs b (c ∷ d ∷ rest) refl (is_true (hex b) _ _ hb ∙ is_true (leb 12 (hexed b)) _ _ e12)
-        (text_go (inside.Low h (hexes.Two (hexed a) (hexed b))) (inside.Low h (hexes.Three (hexed a) (hexed b) (hexed c))) None cs c (d ∷ rest) refl (is_true (hex c) _ _ hc)
-        (text_go (inside.Low h (hexes.Three (hexed a) (hexed b) (hexed c))) inside.Plain (Some (piece.Char (pair h (unit (hexed a) (hexed b) (hexed c) (hexed d))))) cs d rest refl (is_true (hex d) _ _ hd) k)))))
+        (text_go (inside.Low h hexes.Zero) (inside.Low h (hexes.One (hexed a))) None cs a (b ∷ c ∷ d ∷ rest) refl (cond-true (hex a) _ _ ha ∙ cond-true (eqb (hexed a) 13) _ _ e13)
+        (text_go (inside.Low h (hexes.One (hexed a))) (inside.Low h (hexes.Two (hexed a) (hexed b))) None cs b (c ∷ d ∷ rest) refl (cond-true (hex b) _ _ hb ∙ cond-true (leb 12 (hexed b)) _ _ e12)
+        (text_go (inside.Low h (hexes.Two (hexed a) (hexed b))) (inside.Low h (hexes.Three (hexed a) (hexed b) (hexed c))) None cs c (d ∷ rest) refl (cond-true (hex c) _ _ hc)
+        (text_go (inside.Low h (hexes.Three (hexed a) (hexed b) (hexed c))) inside.Plain (Some (piece.Char (pair h (unit (hexed a) (hexed b) (hexed c) (hexed d))))) cs d rest refl (cond-true (hex d) _ _ hd) k)))))
 
     character_run : {c w : List ℕ} (cs rest : List ℕ) → Character c w → ((j : ℕ) → Goes (texting inside.Plain (cs ++ c)) j rest) → (j : ℕ) → Goes (texting inside.Plain cs) j (w ++ rest)
     character_run cs rest (Character.raw raw) k = raw_run cs rest raw k
@@ -171,10 +171,10 @@ module _ (N : ℕ) (P : Result Tree Fault → Type 0) where
         text_go inside.Plain inside.Escape None cs 92 (b ∷ rest) refl refl (text_go inside.Escape inside.Plain (Some (piece.Byte c)) cs b rest refl (ap (λ o. escaped_by o b) e) k)
     character_run cs rest (Character.single (CodeUnit.digits a b c d ha hb hc hd) e) k =
         unit-run cs a b c d inside.Plain (Some (piece.Char (unit (hexed a) (hexed b) (hexed c) (hexed d)))) rest ha hb hc hd (alone_12 (hexed a) (hexed b) (hexed c) (hexed d) (hex_small c hc) (hex_small d hd) (hex_small b hb) e)
-        (is_true (scalar (unit (hexed a) (hexed b) (hexed c) (hexed d))) _ _ (alone-scalar (unit (hexed a) (hexed b) (hexed c) (hexed d)) (unit_small a b c d ha hb hc hd) e)) k
+        (cond-true (scalar (unit (hexed a) (hexed b) (hexed c) (hexed d))) _ _ (alone-scalar (unit (hexed a) (hexed b) (hexed c) (hexed d)) (unit_small a b c d ha hb hc hd) e)) k
     character_run cs rest (Character.twins (CodeUnit.digits a b c d ha hb hc hd) e (CodeUnit.digits x y z w hx hy hz hw) l) k =
         unit-run cs a b c d (inside.High (unit (hexed a) (hexed b) (hexed c) (hexed d))) None (92 ∷ 117 ∷ x ∷ y ∷ z ∷ w ∷ rest) ha hb hc hd (high_12 (hexed a) (hexed b) (hexed c) (hexed d) (hex_small c hc) (hex_small d hd) (hex_small b hb) e)
-        (is_false (scalar (unit (hexed a) (hexed b) (hexed c) (hexed d))) _ _ (high-scalar (unit (hexed a) (hexed b) (hexed c) (hexed d)) e))
+        (cond-false (scalar (unit (hexed a) (hexed b) (hexed c) (hexed d))) _ _ (high-scalar (unit (hexed a) (hexed b) (hexed c) (hexed d)) e))
         (low_run cs (unit (hexed a) (hexed b) (hexed c) (hexed d)) x y z w rest hx hy hz hw (low_13 (hexed x) (hexed y) (hexed z) (hexed w) (hex_small z hz) (hex_small w hw) (hex_small y hy) l) (low_12 (hexed x) (hexed y) (hexed z) (hexed w) (hex_small z hz) (hex_small w hw) (hex_small y hy) l) k)
 
     pub chars_run : {cs s : List ℕ} (rest : List ℕ) → Chars cs s → ((j : ℕ) → Goes (texting inside.Plain cs) j rest) → (i : ℕ) → Goes (texting inside.Plain []) i (s ++ rest)

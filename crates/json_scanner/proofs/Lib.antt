@@ -1,4 +1,3 @@
-pub mod Cases
 pub mod Roomy
 pub mod Turns
 pub mod Strings

@@ -1,5 +1,6 @@
 -- Runs over a number.
 use Rattle.std.proofs.Common.{◌≡◌, ℕ, ◌+◌, ◌-◌, ◌*◌, ◌<◌, Bool, true, false, cond, eqb, leb, List, [], ◌∷◌, ◌++◌, Ok, Err, Result, sym, refl, ap, ◌∙◌, subst, append_assoc, arith}
+use Rattle.std.proofs.lemmas.Bool.{cond_both, cond-true, cond-false, false≢true}
 use Rattle.std.proofs.lemmas.Bool.Decides.{nat_tests}
 use Rattle.std.specs.Char.{is_ascii_digit}
 use Rattle.json_scanner.specs.declared.modes.Figures.{Figures}
@@ -13,7 +14,6 @@ use Rattle.json_scanner.specs.declared.modes.Ready.{Ready}
 use Rattle.json_scanner.specs.Grammar.{Tree, white, power, sign, unfit, Numeral, Whole, Digits, Exponent, Real}
 use Rattle.json_scanner.specs.Bytes.{goes, begun, judged, figured, figure, settled, still, then}
 use Rattle.json_scanner.specs.Machine.{State, Frame, kinds, put, surroundings, carried, stepped, step, prepared, ended, run}
-use Rattle.json_scanner.proofs.Cases.{by_cond, is_true, is_false, never}
 use Rattle.json_scanner.proofs.Shape.{made_of}
 use Rattle.json_scanner.proofs.Goes.{Goes, go, stop, Stops, unsettled, step-moved}
 
@@ -32,7 +32,7 @@ digit_begun f bs n i b e =
     let x : eqb b 91 ≡ false = grind (arith, nat_tests) in
     let y : eqb b 123 ≡ false = grind (arith, nat_tests) in
     let a : eqb b 45 ≡ false = grind (arith, nat_tests) in
-    is_false (white b) _ _ w ∙ (is_false (eqb b 91) _ _ x ∙ (is_false (eqb b 123) _ _ y ∙ (is_false (eqb b 45) _ _ a ∙ is_true (is_ascii_digit b) _ _ e)))
+    cond-false (white b) _ _ w ∙ (cond-false (eqb b 91) _ _ x ∙ (cond-false (eqb b 123) _ _ y ∙ (cond-false (eqb b 45) _ _ a ∙ cond-true (is_ascii_digit b) _ _ e)))
 
 digit_want : (f : Frame) (bs : List Frame) (n i b : ℕ) → is_ascii_digit b ≡ true → step i (want f bs n) b ≡ Ok (numbering (figures.Whole false (b - 48)) i f bs n)
 digit_want f bs n i b e = step-moved i b mode.Want n [] f bs _ refl (digit_begun f bs n i b e)
@@ -40,14 +40,14 @@ digit_want f bs n i b e = step-moved i b mode.Want n [] f bs _ refl (digit_begun
 -- a figure goes on with an integer
 whole-step : (g : Bool) (k from : ℕ) (f : Frame) (bs : List Frame) (n i b : ℕ) → figure b ≡ true → step i (numbering (figures.Whole g k) from f bs n) b ≡ carried (judged (figured (figures.Whole g k) b) n from i) (numbering (figures.Whole g k) from f bs n)
 whole-step g k from f bs n i b e =
-    ap (λ r. then r (λ q. stepped i (prepared q (numbering (figures.Whole g k) from f bs n)) b)) (is_true (figure b) (Ok (still (mode.Number (figures.Whole g k) from) n)) (settled (mode.Number (figures.Whole g k) from) n) e)
+    ap (λ r. then r (λ q. stepped i (prepared q (numbering (figures.Whole g k) from f bs n)) b)) (cond-true (figure b) (Ok (still (mode.Number (figures.Whole g k) from) n)) (settled (mode.Number (figures.Whole g k) from) n) e)
 
 digit_figured : (g : Bool) (k b : ℕ) → is_ascii_digit b ≡ true → 0 < k → figured (figures.Whole g k) b ≡ cond (unfit g (k * 10 + (b - 48))) (Err number_error.Unfit) (Ok (figures.Whole g (k * 10 + (b - 48))))
 digit_figured g k b e pos =
     let np : eqb b 46 ≡ false = grind (arith, nat_tests) in
     let ne : power b ≡ false = grind (arith, nat_tests) in
     let nz : eqb k 0 ≡ false = grind (arith, nat_tests) in
-    is_false (eqb b 46) _ _ np ∙ (is_false (power b) _ _ ne ∙ (is_true (is_ascii_digit b) _ _ e ∙ is_false (eqb k 0) _ _ nz))
+    cond-false (eqb b 46) _ _ np ∙ (cond-false (power b) _ _ ne ∙ (cond-true (is_ascii_digit b) _ _ e ∙ cond-false (eqb k 0) _ _ nz))
 
 digit_figure : (b : ℕ) → is_ascii_digit b ≡ true → figure b ≡ true
 digit_figure b e = grind (arith, nat_tests)
@@ -56,10 +56,10 @@ power-figure : (b : ℕ) → power b ≡ true → figure b ≡ true
 power-figure b e = grind (arith, nat_tests)
 
 power-figured : (g : Bool) (k b : ℕ) → power b ≡ true → figured (figures.Whole g k) b ≡ Ok figures.Power
-power-figured g k b e = let p : eqb b 46 ≡ false = grind (arith, nat_tests) in is_false (eqb b 46) _ _ p ∙ is_true (power b) _ _ e
+power-figured g k b e = let p : eqb b 46 ≡ false = grind (arith, nat_tests) in cond-false (eqb b 46) _ _ p ∙ cond-true (power b) _ _ e
 
 sign-figured : (b : ℕ) → sign b ≡ true → figured figures.Power b ≡ Ok figures.Sign
-sign-figured b e = let d : is_ascii_digit b ≡ false = grind (arith, nat_tests) in is_false (is_ascii_digit b) _ _ d ∙ is_true (sign b) _ _ e
+sign-figured b e = let d : is_ascii_digit b ≡ false = grind (arith, nat_tests) in cond-false (is_ascii_digit b) _ _ d ∙ cond-true (sign b) _ _ e
 
 unfit_more : (g : Bool) (k b : ℕ) → 0 < k → unfit g k ≡ true → unfit g (k * 10 + (b - 48)) ≡ true
 unfit_more false k b pos h = grind (arith, nat_tests)
@@ -98,14 +98,14 @@ module _ (N : ℕ) (P : Result Tree Fault → Type 0) (from : ℕ) (f : Frame) (
       let at : State = numbering (figures.Whole g m) from f bs n in
       let moves : step j at b ≡ carried (judged (cond (unfit g (m * 10 + (b - 48))) (Err number_error.Unfit) (Ok (figures.Whole g (m * 10 + (b - 48))))) n from j) at = whole-step g m from f bs n j b (digit_figure b e) ∙ ap (λ v. carried (judged v n from j) at) (digit_figured g m b e pos) in
       subst (λ r. P (then r (λ x. run x (j + 1) rest))) (sym moves)
-      (by_cond (λ v. P (then (carried (judged v n from j) at) (λ x. run x (j + 1) rest))) (unfit g (m * 10 + (b - 48))) _ _ bad (λ fit. k fit (j + 1) (omega arith)))))
+      (cond_both (unfit g (m * 10 + (b - 48))) _ _ (λ v. P (then (carried (judged v n from j) at) (λ x. run x (j + 1) rest))) bad (λ fit. k fit (j + 1) (omega arith)))))
 
   minus_first : (b : ℕ) (r : List ℕ) → is_ascii_digit b ≡ true → Bad (unfit true (b - 48)) → On true (b - 48) r → (i : ℕ) → Goes N P (numbering figures.Minus from f bs n) i (b ∷ r)
   minus_first b r e bad k i eq =
       let at : State = numbering figures.Minus from f bs n in
       subst (λ x. P (then x (λ y. run y (i + 1) r))) (sym (unsettled i b (mode.Number figures.Minus from) n [] f bs refl))
-      (by_cond (λ v. P (then (carried (judged v n from i) at) (λ x. run x (i + 1) r))) (eqb b 48) _ _ (λ z. bad (minus_zero b z))
-      (λ z. by_cond (λ v. P (then (carried (judged v n from i) at) (λ x. run x (i + 1) r))) (is_ascii_digit b) _ _ (λ _. k (minus_fits b e z) (i + 1) (omega arith)) (λ x. never (sym x ∙ e))))
+      (cond_both (eqb b 48) _ _ (λ v. P (then (carried (judged v n from i) at) (λ x. run x (i + 1) r))) (λ z. bad (minus_zero b z))
+      (λ z. cond_both (is_ascii_digit b) _ _ (λ v. P (then (carried (judged v n from i) at) (λ x. run x (i + 1) r))) (λ _. k (minus_fits b e z) (i + 1) (omega arith)) (λ x. absurd (false≢true (sym x ∙ e)))))
 
   -- a digit behind a point or an exponent
   digit_stop : (g : Figures) (s rest : List ℕ) → ((b : ℕ) → is_ascii_digit b ≡ true → figured g b ≡ (Err number_error.Unfit)) → settled (mode.Number g from) n ≡ Ok (still (mode.Number g from) n) → Digits s → P (Err (fault.Number from)) → (i : ℕ) → Goes N P (numbering g from f bs n) i (s ++ rest)
@@ -115,19 +115,19 @@ module _ (N : ℕ) (P : Result Tree Fault → Type 0) (from : ℕ) (f : Frame) (
       (stop N P (numbering g from f bs n) (fault.Number from) i h.0 (h.1 ++ rest) (step-moved i h.0 (mode.Number g from) n [] f bs (Err (fault.Number from)) st (ap (λ v. judged v n from i) (stops h.0 h.2))) bad)
 
   point_stop : (s rest : List ℕ) → Digits s → P (Err (fault.Number from)) → (i : ℕ) → Goes N P (numbering figures.Point from f bs n) i (s ++ rest)
-  point_stop s rest ds bad = digit_stop figures.Point s rest (λ b e. is_true (is_ascii_digit b) _ _ e) refl ds bad
+  point_stop s rest ds bad = digit_stop figures.Point s rest (λ b e. cond-true (is_ascii_digit b) _ _ e) refl ds bad
 
   exponent_run : {x : List ℕ} (g : Bool) (k : ℕ) (rest : List ℕ) → Exponent x → P (Err (fault.Number from)) → (j : ℕ) → Goes N P (numbering (figures.Whole g k) from f bs n) j (x ++ rest)
   exponent_run g k rest (Exponent.bare {f = s} e he ds) bad j =
       go N P (numbering (figures.Whole g k) from f bs n) (numbering figures.Power from f bs n) j e (s ++ rest)
       (whole-step g k from f bs n j e (power-figure e he) ∙ ap (λ v. carried (judged v n from j) (numbering (figures.Whole g k) from f bs n)) (power-figured g k e he))
-      (digit_stop figures.Power s rest (λ b d. is_true (is_ascii_digit b) _ _ d) refl ds bad (j + 1))
+      (digit_stop figures.Power s rest (λ b d. cond-true (is_ascii_digit b) _ _ d) refl ds bad (j + 1))
   exponent_run g k rest (Exponent.signed {f = s} e h he hh ds) bad j =
       go N P (numbering (figures.Whole g k) from f bs n) (numbering figures.Power from f bs n) j e (h ∷ (s ++ rest))
       (whole-step g k from f bs n j e (power-figure e he) ∙ ap (λ v. carried (judged v n from j) (numbering (figures.Whole g k) from f bs n)) (power-figured g k e he))
       (go N P (numbering figures.Power from f bs n) (numbering figures.Sign from f bs n) (j + 1) h (s ++ rest)
       (step-moved (j + 1) h (mode.Number figures.Power from) n [] f bs _ refl (ap (λ v. judged v n from (j + 1)) (sign-figured h hh)))
-      (digit_stop figures.Sign s rest (λ b d. is_true (is_ascii_digit b) _ _ d) refl ds bad (j + 1 + 1)))
+      (digit_stop figures.Sign s rest (λ b d. cond-true (is_ascii_digit b) _ _ d) refl ds bad (j + 1 + 1)))
 
 module _ (N : ℕ) (P : Result Tree Fault → Type 0) (f : Frame) (bs : List Frame) (n : ℕ) where
   pub whole_run : {g : Bool} {k : ℕ} {s : List ℕ} (rest : List ℕ) (i : ℕ) → Whole g k s → (unfit g k ≡ true → P (Err (fault.Number i)))
@@ -155,10 +155,10 @@ module _ (N : ℕ) (P : Result Tree Fault → Type 0) (f : Frame) (bs : List Fra
   pub number_stops : (g : Bool) (k from : ℕ) (rest : List ℕ) → Stops rest → (leb 4096 n ≡ true → P (Err (fault.Crowded from)))
       → (leb 4096 n ≡ false → (j : ℕ) → Goes N P (after (put f (Tree.number g k)) bs (n + 1)) j rest) → (j : ℕ) → Goes N P (numbering (figures.Whole g k) from f bs n) j rest
   number_stops g k from [] sp crowded ok j eq =
-      by_cond (λ x. P (then x (λ r. ended j r.mode (prepared r (numbering (figures.Whole g k) from f bs n))))) (leb 4096 n) _ _ crowded (λ h. ok h j eq)
+      cond_both (leb 4096 n) _ _ (λ x. P (then x (λ r. ended j r.mode (prepared r (numbering (figures.Whole g k) from f bs n))))) crowded (λ h. ok h j eq)
   number_stops g k from (b ∷ s) sp crowded ok j eq =
       let st : State = numbering (figures.Whole g k) from f bs n in
       let Q : Result Ready Fault → Type 0 = λ x. P (then (then x (λ q. stepped j (prepared q st) b)) (λ y. run y (j + 1) s)) in
-      subst Q (sym (is_false (figure b) (Ok (still (mode.Number (figures.Whole g k) from) n)) (settled (mode.Number (figures.Whole g k) from) n) sp))
-      (by_cond Q (leb 4096 n) _ _ crowded
+      subst Q (sym (cond-false (figure b) (Ok (still (mode.Number (figures.Whole g k) from) n)) (settled (mode.Number (figures.Whole g k) from) n) sp))
+      (cond_both (leb 4096 n) _ _ Q crowded
       (λ h. subst (λ x. P (then x (λ y. run y (j + 1) s))) (unsettled j b mode.After (n + 1) [] (put f (Tree.number g k)) bs refl) (ok h j eq)))

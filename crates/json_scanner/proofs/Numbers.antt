@@ -1,5 +1,6 @@
 -- A number that is being read, by the grammar, and how it can be completed.
 use Rattle.std.proofs.Common.{◌≡◌, ℕ, ◌+◌, ◌-◌, ◌*◌, ◌<◌, Bool, true, false, ◌||◌, eqb, List, [], ◌∷◌, ◌++◌, Ok, Err, Result, sym, refl, ap, subst, inl, inr, append_assoc, append-nil, arith, eqb-true}
+use Rattle.std.proofs.lemmas.Bool.{cond_both, or_left}
 use Rattle.std.proofs.lemmas.Bool.Decides.{nat_tests}
 use Rattle.std.specs.Char.{is_ascii_digit}
 use Rattle.json_scanner.specs.declared.modes.Figures.{Figures}
@@ -9,7 +10,6 @@ use Rattle.json_scanner.specs.declared.modes.NumberError.TheVariants as number_e
 use Rattle.json_scanner.specs.Grammar.{Tree, power, sign, unfit, Numeral, Whole, Digits, Exponent, Real, Value}
 use Rattle.json_scanner.specs.Bytes.{figured}
 use Rattle.json_scanner.specs.Faults.{Unfit, starts}
-use Rattle.json_scanner.proofs.Cases.{by_cond, or_left}
 
 pub data NumberPart : Figures → List ℕ → Type 0 where
   minus : NumberPart figures.Minus (45 ∷ [])
@@ -34,24 +34,24 @@ positive n e = grind (arith, nat_tests)
 pub number_grows : {f : Figures} {p : List ℕ} (b : ℕ) → NumberPart f p → Judged p b (figured f b)
 number_grows b minus =
     let P : Result Figures NumberError → Type 0 = Judged (45 ∷ []) b in
-    by_cond P (eqb b 48) _ _ (λ e. subst (λ x. Unfit (45 ∷ x ∷ [])) (sym (eqb-true b 48 e)) (inl (true, 0, Whole.minus (Numeral.digit 48 refl), refl)))
-    (λ _. by_cond P (is_ascii_digit b) _ _ (λ d. whole (Whole.minus (Numeral.digit b d))) (λ _. tt))
+    cond_both (eqb b 48) _ _ P (λ e. subst (λ x. Unfit (45 ∷ x ∷ [])) (sym (eqb-true b 48 e)) (inl (true, 0, Whole.minus (Numeral.digit 48 refl), refl)))
+    (λ _. cond_both (is_ascii_digit b) _ _ P (λ d. whole (Whole.minus (Numeral.digit b d))) (λ _. tt))
 number_grows b (whole {g} {k} {s} num) =
     let P : Result Figures NumberError → Type 0 = Judged s b in
-    by_cond P (eqb b 46) _ _ (λ e. subst (λ x. NumberPart figures.Point (s ++ x ∷ [])) (sym (eqb-true b 46 e)) (point num))
-    (λ _. by_cond P (power b) _ _ (λ e. raised b num e)
-    (λ _. by_cond P (is_ascii_digit b) _ _
-    (λ d. by_cond P (eqb k 0) _ _ (λ _. tt)
-    (λ nz. by_cond P (unfit g (k * 10 + (b - 48))) _ _ (λ u. inl (g, k * 10 + (b - 48), whole_more b num (positive k nz) d, u)) (λ _. whole (whole_more b num (positive k nz) d))))
+    cond_both (eqb b 46) _ _ P (λ e. subst (λ x. NumberPart figures.Point (s ++ x ∷ [])) (sym (eqb-true b 46 e)) (point num))
+    (λ _. cond_both (power b) _ _ P (λ e. raised b num e)
+    (λ _. cond_both (is_ascii_digit b) _ _ P
+    (λ d. cond_both (eqb k 0) _ _ P (λ _. tt)
+    (λ nz. cond_both (unfit g (k * 10 + (b - 48))) _ _ P (λ u. inl (g, k * 10 + (b - 48), whole_more b num (positive k nz) d, u)) (λ _. whole (whole_more b num (positive k nz) d))))
     (λ _. tt)))
 number_grows b (point {g} {k} {s} num) =
-    by_cond (Judged (s ++ 46 ∷ []) b) (is_ascii_digit b) _ _ (λ d. inr (subst Real (sym (append_assoc s (46 ∷ []) (b ∷ []))) (Real.point num (Digits.one b d)))) (λ _. tt)
+    cond_both (is_ascii_digit b) _ _ (Judged (s ++ 46 ∷ []) b) (λ d. inr (subst Real (sym (append_assoc s (46 ∷ []) (b ∷ []))) (Real.point num (Digits.one b d)))) (λ _. tt)
 number_grows b (raised {g} {k} {s} e num he) =
     let P : Result Figures NumberError → Type 0 = Judged (s ++ e ∷ []) b in
-    by_cond P (is_ascii_digit b) _ _ (λ d. inr (subst Real (sym (append_assoc s (e ∷ []) (b ∷ []))) (Real.raised num (Exponent.bare e he (Digits.one b d)))))
-    (λ _. by_cond P (sign b) _ _ (λ h. subst (NumberPart figures.Sign) (sym (append_assoc s (e ∷ []) (b ∷ []))) (signed e b num he h)) (λ _. tt))
+    cond_both (is_ascii_digit b) _ _ P (λ d. inr (subst Real (sym (append_assoc s (e ∷ []) (b ∷ []))) (Real.raised num (Exponent.bare e he (Digits.one b d)))))
+    (λ _. cond_both (sign b) _ _ P (λ h. subst (NumberPart figures.Sign) (sym (append_assoc s (e ∷ []) (b ∷ []))) (signed e b num he h)) (λ _. tt))
 number_grows b (signed {g} {k} {s} e h num he hh) =
-    by_cond (Judged (s ++ e ∷ h ∷ []) b) (is_ascii_digit b) _ _
+    cond_both (is_ascii_digit b) _ _ (Judged (s ++ e ∷ h ∷ []) b)
     (λ d. inr (subst Real (sym (append_assoc s (e ∷ h ∷ []) (b ∷ []))) (Real.raised num (Exponent.signed e h he hh (Digits.one b d))))) (λ _. tt)
 
 pub number_completed : {f : Figures} {p : List ℕ} → NumberPart f p → (q : List ℕ) × (v : Tree) × Value v (p ++ q)

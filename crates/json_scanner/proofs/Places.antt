@@ -2,6 +2,7 @@
 use Rattle.std.proofs.Common.{◌≡◌, ℕ, ◌+◌, Bool, true, false, cond, eqb, leb, List, [], ◌∷◌, ◌++◌, length, take, Some, None, Ok, Err, Option, Result, sym, refl, ap, ◌∙◌, subst, append_assoc, append-nil, arith, length-append}
 use Rattle.std.proofs.lemmas.List.{take_at}
 use Rattle.std.specs.Char.{is_ascii_digit}
+use Rattle.std.proofs.lemmas.Bool.{cond_both}
 use Rattle.json_scanner.specs.declared.modes.Container.{Container}
 use Rattle.json_scanner.specs.declared.modes.Container.TheVariants as container
 use Rattle.json_scanner.specs.declared.modes.Role.{Role}
@@ -18,7 +19,6 @@ use Rattle.json_scanner.specs.Grammar.{Tree, white, Text, Viable}
 use Rattle.json_scanner.specs.Bytes.{Moved, Spelling, moved, begun, opening, beginning, keyed, followed, judged, broken_off, noted, spelled, closing, letter, figured, figure, settled, settled_figures, readied, then}
 use Rattle.json_scanner.specs.Machine.{State, Frame, kinds, surroundings, carried, stepped, step, prepared, ended, only, finished, run, start}
 use Rattle.json_scanner.specs.Faults.{Breaks}
-use Rattle.json_scanner.proofs.Cases.{by_cond}
 use Rattle.json_scanner.proofs.Shape.{Shaped, Right, Good, right_more}
 use Rattle.json_scanner.proofs.Sound.{Ends, step_good, finished_good, at_next, sound_from, start_shape, viable}
 use Rattle.json_scanner.proofs.Complete.{Soft, text_run}
@@ -60,7 +60,7 @@ followed_blamed (Some container.List) i b = either i (eqb b 44) _ _ tt (either i
 followed_blamed (Some container.Object) i b = either i (eqb b 44) _ _ tt (either i (eqb b 125) _ _ tt refl)
 
 broken_at : (n from i : ℕ) → At i (broken_off n from i)
-broken_at n from i = by_cond (At i) (leb 4096 n) _ _ (λ _. tt) (λ _. refl)
+broken_at n from i = cond_both (leb 4096 n) _ _ (At i) (λ _. tt) (λ _. refl)
 
 judged_blamed : (v : Result Figures NumberError) (n from i : ℕ) → Blamed i (judged v n from i)
 judged_blamed (Ok f) n from i = tt

@@ -1,5 +1,6 @@
 -- What the machine has read, by the grammar: soundness, and that each state can be completed.
 use Rattle.std.proofs.Common.{◌≡◌, ℕ, suc, ◌+◌, ◌-◌, ◌≤◌, true, false, cond, ◌||◌, eqb, leb, List, [], ◌∷◌, ◌++◌, length, Some, None, Ok, Err, Option, Result, sym, refl, ap, ◌∙◌, subst, append_assoc, append-nil, arith, eqb-true}
+use Rattle.std.proofs.lemmas.Bool.{cond_both, or_left, or_right, leb-true}
 use Rattle.std.proofs.lemmas.Bool.Decides.{nat_tests}
 use Rattle.std.specs.Char.{is_ascii_digit}
 use Rattle.json_scanner.specs.declared.modes.Role.TheVariants as role
@@ -23,7 +24,6 @@ use Rattle.json_scanner.specs.Grammar.{Tree, Trees, nil, Members, none, size, wh
 use Rattle.json_scanner.specs.Bytes.{Moved, Spelling, goes, begun, opening, beginning, keyed, judged, broken_off, noted, act_of, spelled, closing, letter, spelling, figured}
 use Rattle.json_scanner.specs.Machine.{State, Frame, sole, items, fields, field, kinds, put, surroundings, performed, carried, stepped}
 use Rattle.json_scanner.specs.Faults.{Inner, Place, top, within, values_before, inner_values, starts, Nests, Misfits, Crowds}
-use Rattle.json_scanner.proofs.Cases.{by_cond, or_left, or_right, reached}
 use Rattle.json_scanner.proofs.Strings.{TextPart, between, added, Grown, text_grows, text_closes}
 use Rattle.json_scanner.proofs.Numbers.{NumberPart, Judged, number_grows, part-opens, opens-starts}
 
@@ -188,10 +188,10 @@ byte {st} u b c e sh = subst (λ x. Shaped st (u ++ x ∷ [])) (sym (eqb-true b 
 
 module _ {f : Frame} {bs : List Frame} {u : List ℕ} (i b n : ℕ) (at : i ≡ length u) (pl : Place f bs u) (cnt : n ≡ values_before f bs) where
   crowds : starts b ≡ true → leb 4096 n ≡ true → Crowds (u ++ b ∷ []) i
-  crowds st many = record { before = u; b = b; rest = []; f = f; bs = bs; split = refl; place = at; wanted = pl; begins = st; many = subst (λ x. 4096 ≤ x) cnt (reached 4096 n many) }
+  crowds st many = record { before = u; b = b; rest = []; f = f; bs = bs; split = refl; place = at; wanted = pl; begins = st; many = subst (λ x. 4096 ≤ x) cnt (leb-true 4096 n many) }
 
   nests : (eqb b 91 || eqb b 123) ≡ true → leb 200 (length (kinds f bs)) ≡ true → Nests (u ++ b ∷ []) i
-  nests br deep = record { before = u; b = b; rest = []; f = f; bs = bs; split = refl; place = at; wanted = pl; bracket = br; deep = subst (λ x. 200 ≤ x) (kinds-length f bs) (reached 200 (length (kinds f bs)) deep) }
+  nests br deep = record { before = u; b = b; rest = []; f = f; bs = bs; split = refl; place = at; wanted = pl; bracket = br; deep = subst (λ x. 200 ≤ x) (kinds-length f bs) (leb-true 200 (length (kinds f bs)) deep) }
 
   bracket_starts : (eqb b 91 || eqb b 123) ≡ true → starts b ≡ true
   bracket_starts e = grind (arith, nat_tests)
@@ -200,11 +200,11 @@ module _ {f : Frame} {bs : List Frame} {u : List ℕ} (i b n : ℕ) (at : i ≡ 
       → Good (u ++ b ∷ []) (carried (opening (surroundings i (kinds f bs) n) k c) (made_of m n [] f bs))
   opening_good m k c br ok =
       let P : Moved → Type 0 = λ mv. Good (u ++ b ∷ []) (carried mv (made_of m n [] f bs)) in
-      by_cond P (leb 200 (length (kinds f bs))) _ _ (nests br) (λ _. by_cond P (leb 4096 n) _ _ (crowds (bracket_starts br)) (λ _. ok))
+      cond_both (leb 200 (length (kinds f bs))) _ _ P (nests br) (λ _. cond_both (leb 4096 n) _ _ P (crowds (bracket_starts br)) (λ _. ok))
 
   beginning_good : (m k : Mode) → starts b ≡ true → begins k ≡ 1 → Shape k [] f bs (u ++ b ∷ []) → Good (u ++ b ∷ []) (carried (beginning (surroundings i (kinds f bs) n) k) (made_of m n [] f bs))
   beginning_good m k st one ok =
-      by_cond (λ mv. Good (u ++ b ∷ []) (carried mv (made_of m n [] f bs))) (leb 4096 n) _ _ (crowds st) (λ _. (ok, omega arith))
+      cond_both (leb 4096 n) _ _ (λ mv. Good (u ++ b ∷ []) (carried mv (made_of m n [] f bs))) (crowds st) (λ _. (ok, omega arith))
 
   at_byte : {k : Mode} {cs : List ℕ} {g : Frame} {gs : List Frame} (c : ℕ) → eqb b c ≡ true → Shape k cs g gs (u ++ c ∷ []) → Shape k cs g gs (u ++ b ∷ [])
   at_byte {k} {cs} {g} {gs} c e sh = subst (λ x. Shape k cs g gs (u ++ x ∷ [])) (sym (eqb-true b c e)) sh
@@ -215,15 +215,15 @@ module _ {f : Frame} {bs : List Frame} {u : List ℕ} (i b n : ℕ) (at : i ≡ 
   begun_good : (m stay : Mode) → (white b ≡ true → Shaped (made_of stay n [] f bs) (u ++ b ∷ [])) → Good (u ++ b ∷ []) (carried (begun stay (surroundings i (kinds f bs) n) b) (made_of m n [] f bs))
   begun_good m stay stays =
       let P : Moved → Type 0 = λ mv. Good (u ++ b ∷ []) (carried mv (made_of m n [] f bs)) in
-      by_cond P (white b) _ _ stays
-      (λ _. by_cond P (eqb b 91) _ _ (λ e. opening_good m mode.First container.List (or_left (eqb b 91) (eqb b 123) e) (at_byte 91 e (Shape.first pl Blank.none), omega arith))
-      (λ _. by_cond P (eqb b 123) _ _ (λ e. opening_good m mode.FirstKey container.Object (or_right (eqb b 91) (eqb b 123) e) (at_byte 123 e (Shape.key pl (Keys.first Blank.none)), omega arith))
-      (λ _. by_cond P (eqb b 45) _ _ (λ e. subst (λ x. Shaped (made_of (mode.Number figures.Minus x) n [] f bs) (u ++ b ∷ [])) (sym at) (at_byte 45 e (amid pl (number NumberPart.minus)), omega arith))
-      (λ _. by_cond P (is_ascii_digit b) _ _ (λ e. subst (λ x. Shaped (made_of (mode.Number (figures.Whole false (b - 48)) x) n [] f bs) (u ++ b ∷ [])) (sym at) (amid pl (number (NumberPart.whole (Whole.plus (Numeral.digit b e)))), omega arith))
-      (λ _. by_cond P (eqb b 34) _ _ (λ e. beginning_good m (mode.Text role.Value inside.Plain) (starts_at 34 refl e) refl (at_byte 34 e (amid pl (text (between Chars.none)))))
-      (λ _. by_cond P (eqb b 110) _ _ (λ e. beginning_good m (mode.Word word.N) (starts_at 110 refl e) refl (at_byte 110 e (amid pl (literal word.N))))
-      (λ _. by_cond P (eqb b 116) _ _ (λ e. beginning_good m (mode.Word word.T) (starts_at 116 refl e) refl (at_byte 116 e (amid pl (literal word.T))))
-      (λ _. by_cond P (eqb b 102) _ _ (λ e. beginning_good m (mode.Word word.F) (starts_at 102 refl e) refl (at_byte 102 e (amid pl (literal word.F))))
+      cond_both (white b) _ _ P stays
+      (λ _. cond_both (eqb b 91) _ _ P (λ e. opening_good m mode.First container.List (or_left (eqb b 91) (eqb b 123) e) (at_byte 91 e (Shape.first pl Blank.none), omega arith))
+      (λ _. cond_both (eqb b 123) _ _ P (λ e. opening_good m mode.FirstKey container.Object (or_right (eqb b 91) (eqb b 123) e) (at_byte 123 e (Shape.key pl (Keys.first Blank.none)), omega arith))
+      (λ _. cond_both (eqb b 45) _ _ P (λ e. subst (λ x. Shaped (made_of (mode.Number figures.Minus x) n [] f bs) (u ++ b ∷ [])) (sym at) (at_byte 45 e (amid pl (number NumberPart.minus)), omega arith))
+      (λ _. cond_both (is_ascii_digit b) _ _ P (λ e. subst (λ x. Shaped (made_of (mode.Number (figures.Whole false (b - 48)) x) n [] f bs) (u ++ b ∷ [])) (sym at) (amid pl (number (NumberPart.whole (Whole.plus (Numeral.digit b e)))), omega arith))
+      (λ _. cond_both (eqb b 34) _ _ P (λ e. beginning_good m (mode.Text role.Value inside.Plain) (starts_at 34 refl e) refl (at_byte 34 e (amid pl (text (between Chars.none)))))
+      (λ _. cond_both (eqb b 110) _ _ P (λ e. beginning_good m (mode.Word word.N) (starts_at 110 refl e) refl (at_byte 110 e (amid pl (literal word.N))))
+      (λ _. cond_both (eqb b 116) _ _ P (λ e. beginning_good m (mode.Word word.T) (starts_at 116 refl e) refl (at_byte 116 e (amid pl (literal word.T))))
+      (λ _. cond_both (eqb b 102) _ _ P (λ e. beginning_good m (mode.Word word.F) (starts_at 102 refl e) refl (at_byte 102 e (amid pl (literal word.F))))
       (λ _. tt)))))))))
 
 -- one more byte of the value that is being read
@@ -237,7 +237,7 @@ last {u = u} p b pl e val = after (subst (Held _ _) (ap (λ x. u ++ x) (sym e) �
 -- a literal
 word_good : {f : Frame} {bs : List Frame} {u : List ℕ} (w : Word) (i b n : ℕ) → Place f bs u → n ≡ values_before f bs + 1
     → Good ((u ++ letters w) ++ b ∷ []) (carried (cond (eqb b (letter w)) (Ok (spelling w)) (Err (fault.Malformed i))) (made_of (mode.Word w) n [] f bs))
-word_good {f} {bs} {u} w i b n pl cnt = by_cond (λ mv. Good ((u ++ letters w) ++ b ∷ []) (carried mv (made_of (mode.Word w) n [] f bs))) (eqb b (letter w)) _ _ (λ e. subst (λ x. Good ((u ++ letters w) ++ x ∷ []) (carried (Ok (spelling w)) (made_of (mode.Word w) n [] f bs))) (sym (eqb-true b (letter w) e)) (spells w)) (λ _. tt)
+word_good {f} {bs} {u} w i b n pl cnt = cond_both (eqb b (letter w)) _ _ (λ mv. Good ((u ++ letters w) ++ b ∷ []) (carried mv (made_of (mode.Word w) n [] f bs))) (λ e. subst (λ x. Good ((u ++ letters w) ++ x ∷ []) (carried (Ok (spelling w)) (made_of (mode.Word w) n [] f bs))) (sym (eqb-true b (letter w) e)) (spells w)) (λ _. tt)
   where
     spells : (w : Word) → Good ((u ++ letters w) ++ letter w ∷ []) (carried (Ok (spelling w)) (made_of (mode.Word w) n [] f bs))
     spells word.N = (grows _ 117 pl refl (literal word.Nu), cnt)
@@ -256,10 +256,10 @@ pub number_crowds : {g : Figures} {f : Frame} {bs : List Frame} {u p : List ℕ}
 number_crowds {f = f} {bs = bs} {u = u} {p = p} r n pl np cnt many =
     let o = part-opens np in
     let e : n ≡ values_before f bs = omega arith in
-    record { before = u; b = o.0; rest = o.1 ++ r; f = f; bs = bs; split = append_assoc u p r ∙ ap (λ l. u ++ (l ++ r)) o.3; place = refl; wanted = pl; begins = opens-starts o.0 o.2; many = subst (λ x. 4096 ≤ x) e (reached 4096 n many) }
+    record { before = u; b = o.0; rest = o.1 ++ r; f = f; bs = bs; split = append_assoc u p r ∙ ap (λ l. u ++ (l ++ r)) o.3; place = refl; wanted = pl; begins = opens-starts o.0 o.2; many = subst (λ x. 4096 ≤ x) e (leb-true 4096 n many) }
 
 pub broken_right : {g : Figures} {f : Frame} {bs : List Frame} {u p : List ℕ} (r : List ℕ) (n i : ℕ) → Place f bs u → NumberPart g p → n ≡ values_before f bs + 0 → Right ((u ++ p) ++ r) (broken_off n (length u) i)
-broken_right {u = u} {p = p} r n i pl np cnt = by_cond (Right ((u ++ p) ++ r)) (leb 4096 n) _ _ (number_crowds r n pl np cnt) (λ _. tt)
+broken_right {u = u} {p = p} r n i pl np cnt = cond_both (leb 4096 n) _ _ (Right ((u ++ p) ++ r)) (number_crowds r n pl np cnt) (λ _. tt)
 
 judged_good : {g : Figures} {f : Frame} {bs : List Frame} {u p : List ℕ} (v : Result Figures NumberError) (i b n : ℕ) → Place f bs u → NumberPart g p → n ≡ values_before f bs + 0 → Judged p b v
     → Good ((u ++ p) ++ b ∷ []) (carried (judged v n (length u) i) (made_of (mode.Number g (length u)) n [] f bs))
@@ -298,46 +298,46 @@ keyed_good : {m : Mode} {ms : Members} {f : Frame} {bs : List Frame} {u w : List
     → Good ((u ++ w) ++ b ∷ []) (carried (keyed m i b) (made_of m n [] (fields ms) (f ∷ bs)))
 keyed_good {m} {ms} {f} {bs} {u} {w} i b n pl ks zero cnt =
     let P : Moved → Type 0 = λ mv. Good ((u ++ w) ++ b ∷ []) (carried mv (made_of m n [] (fields ms) (f ∷ bs))) in
-    by_cond P (white b) _ _ (λ h. (subst (Shape _ _ _ _) (sym (append_assoc u w (b ∷ []))) (key pl (keys_blank b h ks)), omega arith))
-    (λ _. by_cond P (eqb b 34) _ _ (λ e. byte (u ++ w) b 34 e (subst (Shape _ _ _ _) (sym (append_assoc u w (34 ∷ []))) (name pl ks (between Chars.none)), cnt)) (λ _. tt))
+    cond_both (white b) _ _ P (λ h. (subst (Shape _ _ _ _) (sym (append_assoc u w (b ∷ []))) (key pl (keys_blank b h ks)), omega arith))
+    (λ _. cond_both (eqb b 34) _ _ P (λ e. byte (u ++ w) b 34 e (subst (Shape _ _ _ _) (sym (append_assoc u w (34 ∷ []))) (name pl ks (between Chars.none)), cnt)) (λ _. tt))
 
 pub stepped_good : {m : Mode} {cs : List ℕ} {f : Frame} {bs : List Frame} {u : List ℕ} (i b n : ℕ) → i ≡ length u → Shape m cs f bs u → n ≡ values_before f bs + begins m → Good (u ++ b ∷ []) (stepped i (made_of m n cs f bs) b)
 stepped_good i b n at (Shape.first {f = f} {bs = bs} {u = u} {a = a} pl ba) cnt =
     let P : Moved → Type 0 = λ mv. Good ((u ++ 91 ∷ a) ++ b ∷ []) (carried mv (made_of mode.First n [] (items nil) (f ∷ bs))) in
-    by_cond P (eqb b 93) _ _
+    cond_both (eqb b 93) _ _ P
     (λ e. byte (u ++ 91 ∷ a) b 93 e (after (subst (Held _ _) (simp append_assoc) (puts pl (Value.empty_list ba))), omega (arith, put_count (Tree.list nil) pl)))
     (λ _. begun_good i b n at (within pl (Inner.first ba)) (omega arith) mode.First mode.First (λ w. (subst (Shape _ _ _ _) (sym (append_assoc u (91 ∷ a) (b ∷ []))) (Shape.first pl (Blank.more b ba w)), cnt)))
 stepped_good i b n at (key {f = f} {bs = bs} {u = u} pl (Keys.first {a = a} ba)) cnt =
     let P : Moved → Type 0 = λ mv. Good ((u ++ 123 ∷ a) ++ b ∷ []) (carried mv (made_of mode.FirstKey n [] (fields none) (f ∷ bs))) in
-    by_cond P (eqb b 125) _ _
+    cond_both (eqb b 125) _ _ P
     (λ e. byte (u ++ 123 ∷ a) b 125 e (after (subst (Held _ _) (simp append_assoc) (puts pl (Value.empty_object ba))), omega (arith, put_count (Tree.object none) pl)))
     (λ _. keyed_good i b n pl (Keys.first ba) refl cnt)
 stepped_good i b n at (key pl (Keys.next en ba)) cnt = keyed_good i b n pl (Keys.next en ba) refl cnt
 stepped_good i b n at (name {ms = ms} {f = f} {bs = bs} {x = x} {cs = cs} {u = u} {w = w} {s = s} pl ks tp) cnt =
     let P : Moved → Type 0 = λ mv. Good ((u ++ (w ++ 34 ∷ s)) ++ b ∷ []) (carried mv (made_of (mode.Text role.Key x) n cs (fields ms) (f ∷ bs))) in
-    by_cond P (closing x b) _ _
+    cond_both (closing x b) _ _ P
     (λ e. let c = text_closes b tp e in byte (u ++ (w ++ 34 ∷ s)) b 34 c.1 (subst (Shape _ _ _ _) (sym (append_assoc u (w ++ 34 ∷ s) (34 ∷ []))) (colon pl ks c.0 Blank.none), cnt))
     (λ _. key_spelled cs s (mode.Text role.Key x) i b n pl ks cnt (spelled x b) (text_grows b tp))
 stepped_good i b n at (colon {ms = ms} {f = f} {bs = bs} {k = k} {u = u} {w = w} {s = s} {b = c} pl ks ch bb) cnt =
     let P : Moved → Type 0 = λ mv. Good ((u ++ (w ++ 34 ∷ s ++ 34 ∷ c)) ++ b ∷ []) (carried mv (made_of mode.Colon n [] (field ms k) (f ∷ bs))) in
-    by_cond P (white b) _ _
+    cond_both (white b) _ _ P
     (λ h. (subst (Shape _ _ _ _) (ap (λ l. u ++ l) (sym (append_assoc (w ++ 34 ∷ s) (34 ∷ c) (b ∷ []))) ∙ sym (append_assoc u (w ++ 34 ∷ s ++ 34 ∷ c) (b ∷ []))) (colon pl ks ch (Blank.more b bb h)), cnt))
-    (λ _. by_cond P (eqb b 58) _ _
+    (λ _. cond_both (eqb b 58) _ _ P
     (λ e. byte (u ++ (w ++ 34 ∷ s ++ 34 ∷ c)) b 58 e (subst (Shape _ _ _ _) (append-nil _ ∙ sym (append_assoc u (w ++ 34 ∷ s ++ 34 ∷ c) (58 ∷ []))) (amid (within pl (named ks ch bb Blank.none)) want), cnt))
     (λ _. tt))
 stepped_good i b n at (after (Held.whole {v = v} {s = s} tx)) cnt =
     let P : Moved → Type 0 = λ mv. Good (s ++ b ∷ []) (carried mv (made_of mode.After n [] (sole v) [])) in
-    by_cond P (white b) _ _ (λ w. (after (held-blank b w (Held.whole tx)), cnt)) (λ _. tt)
+    cond_both (white b) _ _ P (λ w. (after (held-blank b w (Held.whole tx)), cnt)) (λ _. tt)
 stepped_good i b n at (after (behind {f = f} {bs = bs} {u = u} pl (elements {ts = ts} {e = e} el))) cnt =
     let P : Moved → Type 0 = λ mv. Good ((u ++ 91 ∷ e) ++ b ∷ []) (carried mv (made_of mode.After n [] (items ts) (f ∷ bs))) in
-    by_cond P (white b) _ _ (λ w. (after (held-blank b w (behind pl (elements el))), cnt))
-    (λ _. by_cond P (eqb b 44) _ _ (λ q. byte (u ++ 91 ∷ e) b 44 q (subst (Shape _ _ _ _) (append-nil _ ∙ sym (append_assoc u (91 ∷ e) (44 ∷ []))) (amid (within pl (Inner.next el Blank.none)) want), cnt))
-    (λ _. by_cond P (eqb b 93) _ _ (λ q. byte (u ++ 91 ∷ e) b 93 q (after (close_list pl el), omega (arith, put_count (Tree.list ts) pl))) (λ _. tt)))
+    cond_both (white b) _ _ P (λ w. (after (held-blank b w (behind pl (elements el))), cnt))
+    (λ _. cond_both (eqb b 44) _ _ P (λ q. byte (u ++ 91 ∷ e) b 44 q (subst (Shape _ _ _ _) (append-nil _ ∙ sym (append_assoc u (91 ∷ e) (44 ∷ []))) (amid (within pl (Inner.next el Blank.none)) want), cnt))
+    (λ _. cond_both (eqb b 93) _ _ P (λ q. byte (u ++ 91 ∷ e) b 93 q (after (close_list pl el), omega (arith, put_count (Tree.list ts) pl))) (λ _. tt)))
 stepped_good i b n at (after (behind {f = f} {bs = bs} {u = u} pl (entries {ms = ms} {e = e} en))) cnt =
     let P : Moved → Type 0 = λ mv. Good ((u ++ 123 ∷ e) ++ b ∷ []) (carried mv (made_of mode.After n [] (fields ms) (f ∷ bs))) in
-    by_cond P (white b) _ _ (λ w. (after (held-blank b w (behind pl (entries en))), cnt))
-    (λ _. by_cond P (eqb b 44) _ _ (λ q. byte (u ++ 123 ∷ e) b 44 q (subst (Shape _ _ _ _) (sym (append_assoc u (123 ∷ e) (44 ∷ []))) (key pl (Keys.next en Blank.none)), cnt))
-    (λ _. by_cond P (eqb b 125) _ _ (λ q. byte (u ++ 123 ∷ e) b 125 q (after (close_object pl en), omega (arith, put_count (Tree.object ms) pl))) (λ _. tt)))
+    cond_both (white b) _ _ P (λ w. (after (held-blank b w (behind pl (entries en))), cnt))
+    (λ _. cond_both (eqb b 44) _ _ P (λ q. byte (u ++ 123 ∷ e) b 44 q (subst (Shape _ _ _ _) (sym (append_assoc u (123 ∷ e) (44 ∷ []))) (key pl (Keys.next en Blank.none)), cnt))
+    (λ _. cond_both (eqb b 125) _ _ P (λ q. byte (u ++ 123 ∷ e) b 125 q (after (close_object pl en), omega (arith, put_count (Tree.object ms) pl))) (λ _. tt)))
 stepped_good i b n at (amid {f = f} {bs = bs} {u = u} pl want) cnt =
     subst (λ x. Good (x ++ b ∷ []) (carried (begun mode.Want (surroundings i (kinds f bs) n) b) (made_of mode.Want n [] f bs))) (sym (append-nil u))
     (begun_good i b n (at ∙ ap length (append-nil u)) pl (omega arith) mode.Want mode.Want (λ w. (subst (Shape _ _ _ _) (append-nil _) (amid (place-blank b w pl) want), cnt)))
@@ -345,6 +345,6 @@ stepped_good i b n at (amid pl (literal w)) cnt = word_good w i b n pl cnt
 stepped_good i b n at (amid pl (number {f = g} np)) cnt = judged_good (figured g b) i b n pl np cnt (number_grows b np)
 stepped_good i b n at (amid {f = f} {bs = bs} {u = u} pl (text {x = x} {cs = cs} {s = s} tp)) cnt =
     let P : Moved → Type 0 = λ mv. Good ((u ++ 34 ∷ s) ++ b ∷ []) (carried mv (made_of (mode.Text role.Value x) n cs f bs)) in
-    by_cond P (closing x b) _ _
+    cond_both (closing x b) _ _ P
     (λ e. let c = text_closes b tp e in byte (u ++ 34 ∷ s) b 34 c.1 (last (34 ∷ s) 34 pl refl (Value.string c.0), omega (arith, put_count (Tree.text cs) pl)))
     (λ _. value-spelled cs s (mode.Text role.Value x) i b n pl cnt (spelled x b) (text_grows b tp))

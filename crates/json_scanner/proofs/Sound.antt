@@ -1,5 +1,6 @@
 -- What is accepted is a text, and what is read begins one.
 use Rattle.std.proofs.Common.{◌≡◌, ℕ, ◌+◌, leb, List, [], ◌∷◌, ◌++◌, length, Ok, Err, Result, sym, refl, ap, subst, append_assoc, append-nil, arith, length-append}
+use Rattle.std.proofs.lemmas.Bool.{cond_both}
 use Rattle.json_scanner.specs.declared.modes.Word.{Word}
 use Rattle.json_scanner.specs.declared.modes.Word.TheVariants as word
 use Rattle.json_scanner.specs.declared.modes.Figures.{Figures}
@@ -13,7 +14,6 @@ use Rattle.json_scanner.specs.Grammar.{Tree, Members, Blank, Whole, Numeral, Cha
 use Rattle.json_scanner.specs.Bytes.{settled, readied, then, figure, broken_off}
 use Rattle.json_scanner.specs.Machine.{State, Frame, stepped, step, prepared, ended, finished, run, start}
 use Rattle.json_scanner.specs.Faults.{Place, top, within, values_before}
-use Rattle.json_scanner.proofs.Cases.{by_cond, no}
 use Rattle.json_scanner.proofs.Strings.{text_completed}
 use Rattle.json_scanner.proofs.Numbers.{NumberPart, number_completed}
 use Rattle.json_scanner.proofs.Shape.{made_of, elements, entries, Held, behind, Keys, letters, Partial, want, literal, number, text, Shape, key, name, colon, after, amid, begins, Shaped, Right, Good, right_more, puts, put_count, close_list, close_object, named, number_crowds, broken_right, stepped_good}
@@ -30,7 +30,7 @@ as_read u f h = subst (λ l. Right l f) (append-nil u) h
 number_settles : {g : Figures} {f : Frame} {bs : List Frame} {u p : List ℕ} (n : ℕ) → Place f bs u → NumberPart g p → n ≡ values_before f bs + 0
     → Readied (u ++ p) (made_of (mode.Number g (length u)) n [] f bs) (settled (mode.Number g (length u)) n)
 number_settles {f = f} {bs = bs} {u = u} {p = p} n pl (NumberPart.whole {g = g} {k = k} num) cnt =
-    by_cond (Readied (u ++ p) (made_of (mode.Number (figures.Whole g k) (length u)) n [] f bs)) (leb 4096 n) _ _
+    cond_both (leb 4096 n) _ _ (Readied (u ++ p) (made_of (mode.Number (figures.Whole g k) (length u)) n [] f bs))
     (λ many. as_read (u ++ p) (fault.Crowded (length u)) (number_crowds [] n pl (NumberPart.whole num) cnt many))
     (λ _. (after (puts pl (Value.whole num)), omega (arith, put_count (Tree.number g k) pl)))
 number_settles n pl NumberPart.minus cnt = (amid pl (number NumberPart.minus), cnt)
@@ -56,7 +56,7 @@ then_good u i b st (Err f) at h = right_more u (b ∷ []) f h
 
 pub step_good : (st : State) (u : List ℕ) (i b : ℕ) → i ≡ length u → Shaped st u → Good (u ++ b ∷ []) (step i st b)
 step_good st u i b at sh =
-    then_good u i b st (readied b st.mode st.values) at (by_cond (Readied u st) (figure b) _ _ (λ _. sh) (λ _. settle_good st.values sh.0 sh.1))
+    then_good u i b st (readied b st.mode st.values) at (cond_both (figure b) _ _ (Readied u st) (λ _. sh) (λ _. settle_good st.values sh.0 sh.1))
 
 -- ---- the end of the text
 
@@ -88,7 +88,7 @@ finished_good u i st sh = ends_good u i st (settled st.mode st.values) (settle_g
 sound_next : (r : Result State Fault) (s u : List ℕ) (b i : ℕ) (v : Tree) → ((st : State) → Shaped st (u ++ b ∷ []) → run st (i + 1) s ≡ Ok v → Text v ((u ++ b ∷ []) ++ s))
     → Good (u ++ b ∷ []) r → then r (λ next. run next (i + 1) s) ≡ Ok v → Text v (u ++ b ∷ s)
 sound_next (Ok st) s u b i v ih h e = subst (Text v) (append_assoc u (b ∷ []) s) (ih st h e)
-sound_next (Err f) s u b i v ih h e = no e
+sound_next (Err f) s u b i v ih h e = cc
 
 pub at_next : (u : List ℕ) (i b : ℕ) → i ≡ length u → i + 1 ≡ length (u ++ b ∷ [])
 at_next u i b e = omega (arith, length-append u (b ∷ []))

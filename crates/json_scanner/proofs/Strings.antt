@@ -1,6 +1,7 @@
 -- A string that is being read, by the grammar, and how it can be completed.
-use Rattle.std.proofs.Common.{◌≡◌, ℕ, ◌<◌, Bool, true, false, cond, ◌&&◌, eqb, leb, ◌⊎◌, List, [], ◌∷◌, ◌++◌, Some, None, Option, sym, refl, ◌∙◌, subst, inl, inr, append_assoc, append-nil, arith, eqb-true}
+use Rattle.std.proofs.Common.{◌≡◌, ℕ, ◌<◌, true, false, cond, ◌&&◌, eqb, leb, ◌⊎◌, List, [], ◌∷◌, ◌++◌, Some, None, Option, sym, refl, ◌∙◌, subst, inl, inr, append_assoc, append-nil, arith, eqb-true}
 use lib.Utf8.{scalar}
+use Rattle.std.proofs.lemmas.Bool.{cond_both, cases_Bool, false≢true}
 use Rattle.std.proofs.lemmas.Bool.Decides.{nat_tests}
 use Rattle.json_scanner.specs.declared.modes.Tail.TheVariants as tails
 use Rattle.json_scanner.specs.declared.modes.Hex.TheVariants as hexes
@@ -10,7 +11,6 @@ use Rattle.json_scanner.specs.declared.modes.Piece.{Piece}
 use Rattle.json_scanner.specs.Grammar.{plain, lead2, lead3, lead4, tail, second, simple, hex, hexed, unit, high, low, surrogate, Raw, CodeUnit, Character, Chars}
 use Rattle.json_scanner.specs.Bytes.{Spelling, led, escaped_by, spelled, closing}
 use Rattle.json_scanner.specs.Machine.{bytes_of}
-use Rattle.json_scanner.proofs.Cases.{by_cond, never}
 
 -- the text with a piece more
 abbrev pub added : List ℕ → Option Piece → List ℕ
@@ -72,91 +72,87 @@ byte {x} {cs} s b c e h = subst (λ z. TextPart x cs (s ++ z ∷ [])) (sym (eqb-
 led_grows : {cs s : List ℕ} (b : ℕ) → Chars cs s → Grown cs s b (led b)
 led_grows {cs} {s} b ch =
     let P : Spelling → Type 0 = Grown cs s b in
-    by_cond P (plain b) _ _ (λ e. between (Chars.more ch (Character.raw (Raw.one b e))))
-    (λ _. by_cond P (lead2 b) _ _ (λ e. raw1 (b ∷ []) ch (λ c h. Raw.two b c e h))
-    (λ _. by_cond P (lead3 b) _ _ (λ e. raw3 b ch e)
-    (λ _. by_cond P (lead4 b) _ _ (λ e. raw4 b ch e)
-    (λ _. by_cond P (eqb b 92) _ _ (λ e. byte s b 92 e (slash ch)) (λ _. tt)))))
+    cond_both (plain b) _ _ P (λ e. between (Chars.more ch (Character.raw (Raw.one b e))))
+    (λ _. cond_both (lead2 b) _ _ P (λ e. raw1 (b ∷ []) ch (λ c h. Raw.two b c e h))
+    (λ _. cond_both (lead3 b) _ _ P (λ e. raw3 b ch e)
+    (λ _. cond_both (lead4 b) _ _ P (λ e. raw4 b ch e)
+    (λ _. cond_both (eqb b 92) _ _ P (λ e. byte s b 92 e (slash ch)) (λ _. tt)))))
 
 escape_grows : {cs s : List ℕ} (b : ℕ) (o : Option ℕ) → simple b ≡ o → Chars cs s → Grown cs (s ++ 92 ∷ []) b (escaped_by o b)
 escape_grows {cs} {s} b (Some c) e ch = alike refl (sym (append_assoc s (92 ∷ []) (b ∷ []))) (between (Chars.more ch (Character.escape b c e)))
 escape_grows {cs} {s} b None e ch =
-    by_cond (Grown cs (s ++ 92 ∷ []) b) (eqb b 117) _ _ (λ h. byte (s ++ 92 ∷ []) b 117 h (alike refl (sym (append_assoc s (92 ∷ []) (117 ∷ []))) (unit0 ch))) (λ _. tt)
+    cond_both (eqb b 117) _ _ (Grown cs (s ++ 92 ∷ []) b) (λ h. byte (s ++ 92 ∷ []) b 117 h (alike refl (sym (append_assoc s (92 ∷ []) (117 ∷ []))) (unit0 ch))) (λ _. tt)
 
 pub text_grows : {x : Inside} {cs s : List ℕ} (b : ℕ) → TextPart x cs s → Grown cs s b (spelled x b)
 text_grows b (between ch) = led_grows b ch
 text_grows b (raw1 {cs} {s} w ch h) =
-    by_cond (Grown (cs ++ w) (s ++ w) b) (tail b) _ _
+    cond_both (tail b) _ _ (Grown (cs ++ w) (s ++ w) b)
     (λ e. alike (sym (append_assoc cs w (b ∷ []))) (sym (append_assoc s w (b ∷ []))) (between (Chars.more ch (Character.raw (h b e))))) (λ _. tt)
 text_grows b (raw2 {cs} {s} w ch h) =
-    by_cond (Grown (cs ++ w) (s ++ w) b) (tail b) _ _
+    cond_both (tail b) _ _ (Grown (cs ++ w) (s ++ w) b)
     (λ e. alike (sym (append_assoc cs w (b ∷ []))) (sym (append_assoc s w (b ∷ []))) (raw1 (w ++ b ∷ []) ch (λ c k. subst Raw (sym (append_assoc w (b ∷ []) (c ∷ []))) (h b c e k)))) (λ _. tt)
 text_grows b (raw3 {cs} {s} a ch l) =
-    by_cond (Grown (cs ++ a ∷ []) (s ++ a ∷ []) b) (second a b) _ _
+    cond_both (second a b) _ _ (Grown (cs ++ a ∷ []) (s ++ a ∷ []) b)
     (λ e. alike (sym (append_assoc cs (a ∷ []) (b ∷ []))) (sym (append_assoc s (a ∷ []) (b ∷ []))) (raw1 (a ∷ b ∷ []) ch (λ c k. Raw.three a b c l e k))) (λ _. tt)
 text_grows b (raw4 {cs} {s} a ch l) =
-    by_cond (Grown (cs ++ a ∷ []) (s ++ a ∷ []) b) (second a b) _ _
+    cond_both (second a b) _ _ (Grown (cs ++ a ∷ []) (s ++ a ∷ []) b)
     (λ e. alike (sym (append_assoc cs (a ∷ []) (b ∷ []))) (sym (append_assoc s (a ∷ []) (b ∷ []))) (raw2 (a ∷ b ∷ []) ch (λ c d k q. Raw.four a b c d l e k q))) (λ _. tt)
 text_grows b (slash ch) = escape_grows b (simple b) refl ch
 text_grows b (unit0 {cs} {s} ch) =
-    by_cond (Grown cs (s ++ 92 ∷ 117 ∷ []) b) (hex b) _ _ (λ e. alike refl (sym (append_assoc s (92 ∷ 117 ∷ []) (b ∷ []))) (unit1 b ch e)) (λ _. tt)
+    cond_both (hex b) _ _ (Grown cs (s ++ 92 ∷ 117 ∷ []) b) (λ e. alike refl (sym (append_assoc s (92 ∷ 117 ∷ []) (b ∷ []))) (unit1 b ch e)) (λ _. tt)
 text_grows b (unit1 {cs} {s} a ch ha) =
     let P : Spelling → Type 0 = Grown cs (s ++ 92 ∷ 117 ∷ a ∷ []) b in
-    by_cond P (hex b) _ _
-    (λ e. by_cond P (eqb (hexed a) 13 && leb 12 (hexed b)) _ _ (λ _. tt) (λ f. alike refl (sym (append_assoc s (92 ∷ 117 ∷ a ∷ []) (b ∷ []))) (unit2 a b ch ha e f))) (λ _. tt)
+    cond_both (hex b) _ _ P
+    (λ e. cond_both (eqb (hexed a) 13 && leb 12 (hexed b)) _ _ P (λ _. tt) (λ f. alike refl (sym (append_assoc s (92 ∷ 117 ∷ a ∷ []) (b ∷ []))) (unit2 a b ch ha e f))) (λ _. tt)
 text_grows b (unit2 {cs} {s} a d ch ha hd f) =
-    by_cond (Grown cs (s ++ 92 ∷ 117 ∷ a ∷ d ∷ []) b) (hex b) _ _ (λ e. alike refl (sym (append_assoc s (92 ∷ 117 ∷ a ∷ d ∷ []) (b ∷ []))) (unit3 a d b ch ha hd f e)) (λ _. tt)
+    cond_both (hex b) _ _ (Grown cs (s ++ 92 ∷ 117 ∷ a ∷ d ∷ []) b) (λ e. alike refl (sym (append_assoc s (92 ∷ 117 ∷ a ∷ d ∷ []) (b ∷ []))) (unit3 a d b ch ha hd f e)) (λ _. tt)
 text_grows b (unit3 {cs} {s} a d c ch ha hd f hc) =
     let P : Spelling → Type 0 = Grown cs (s ++ 92 ∷ 117 ∷ a ∷ d ∷ c ∷ []) b in
-    by_cond P (hex b) _ _
-    (λ e. by_cond P (scalar (unit (hexed a) (hexed d) (hexed c) (hexed b))) _ _
+    cond_both (hex b) _ _ P
+    (λ e. cond_both (scalar (unit (hexed a) (hexed d) (hexed c) (hexed b))) _ _ P
     (λ g. alike refl (sym (append_assoc s (92 ∷ 117 ∷ a ∷ d ∷ c ∷ []) (b ∷ []))) (between (Chars.more ch (Character.single (CodeUnit.digits a d c b ha hd hc e) (scalar-alone (unit (hexed a) (hexed d) (hexed c) (hexed b)) g)))))
     (λ g. alike refl (sym (append_assoc s (92 ∷ 117 ∷ a ∷ d ∷ c ∷ []) (b ∷ []))) (high-unit ch (CodeUnit.digits a d c b ha hd hc e) (unit-high (hexed a) (hexed d) (hexed c) (hexed b) (hex_small a ha) (hex_small d hd) (hex_small c hc) (hex_small b e) f g))))
     (λ _. tt)
 text_grows b (high-unit {cs} {s} {w} ch cu hi) =
-    by_cond (Grown cs (s ++ w) b) (eqb b 92) _ _ (λ e. byte (s ++ w) b 92 e (alike refl (sym (append_assoc s w (92 ∷ []))) (high_slash ch cu hi))) (λ _. tt)
+    cond_both (eqb b 92) _ _ (Grown cs (s ++ w) b) (λ e. byte (s ++ w) b 92 e (alike refl (sym (append_assoc s w (92 ∷ []))) (high_slash ch cu hi))) (λ _. tt)
 text_grows b (high_slash {cs} {s} {w} ch cu hi) =
-    by_cond (Grown cs (s ++ (w ++ 92 ∷ [])) b) (eqb b 117) _ _ (λ e. byte (s ++ (w ++ 92 ∷ [])) b 117 e (alike refl (simp append_assoc) (low0 ch cu hi))) (λ _. tt)
+    cond_both (eqb b 117) _ _ (Grown cs (s ++ (w ++ 92 ∷ [])) b) (λ e. byte (s ++ (w ++ 92 ∷ [])) b 117 e (alike refl (simp append_assoc) (low0 ch cu hi))) (λ _. tt)
 text_grows b (low0 {cs} {s} {w} ch cu hi) =
     let P : Spelling → Type 0 = Grown cs (s ++ (w ++ 92 ∷ 117 ∷ [])) b in
-    by_cond P (hex b) _ _ (λ e. by_cond P (eqb (hexed b) 13) _ _ (λ f. alike refl (simp append_assoc) (low1 b ch cu hi e f)) (λ _. tt)) (λ _. tt)
+    cond_both (hex b) _ _ P (λ e. cond_both (eqb (hexed b) 13) _ _ P (λ f. alike refl (simp append_assoc) (low1 b ch cu hi e f)) (λ _. tt)) (λ _. tt)
 text_grows b (low1 {cs} {s} {w} a ch cu hi ha f) =
     let P : Spelling → Type 0 = Grown cs (s ++ (w ++ 92 ∷ 117 ∷ a ∷ [])) b in
-    by_cond P (hex b) _ _ (λ e. by_cond P (leb 12 (hexed b)) _ _ (λ g. alike refl (simp append_assoc) (low2 a b ch cu hi ha f e g)) (λ _. tt)) (λ _. tt)
+    cond_both (hex b) _ _ P (λ e. cond_both (leb 12 (hexed b)) _ _ P (λ g. alike refl (simp append_assoc) (low2 a b ch cu hi ha f e g)) (λ _. tt)) (λ _. tt)
 text_grows b (low2 {cs} {s} {w} a d ch cu hi ha f hd g) =
-    by_cond (Grown cs (s ++ (w ++ 92 ∷ 117 ∷ a ∷ d ∷ [])) b) (hex b) _ _ (λ e. alike refl (simp append_assoc) (low3 a d b ch cu hi ha f hd g e)) (λ _. tt)
+    cond_both (hex b) _ _ (Grown cs (s ++ (w ++ 92 ∷ 117 ∷ a ∷ d ∷ [])) b) (λ e. alike refl (simp append_assoc) (low3 a d b ch cu hi ha f hd g e)) (λ _. tt)
 text_grows b (low3 {cs} {s} {w} a d c ch cu hi ha f hd g hc) =
-    by_cond (Grown cs (s ++ (w ++ 92 ∷ 117 ∷ a ∷ d ∷ c ∷ [])) b) (hex b) _ _
+    cond_both (hex b) _ _ (Grown cs (s ++ (w ++ 92 ∷ 117 ∷ a ∷ d ∷ c ∷ [])) b)
     (λ e. alike refl (simp append_assoc) (between (Chars.more ch (Character.twins cu hi (CodeUnit.digits a d c b ha hd hc e) (unit-low (hexed a) (hexed d) (hexed c) (hexed b) (hex_small d hd) (hex_small c hc) (hex_small b e) f g)))))
     (λ _. tt)
 
 -- the quote that ends a string
 pub text_closes : {x : Inside} {cs s : List ℕ} (b : ℕ) → TextPart x cs s → closing x b ≡ true → Chars cs s × (eqb b 34 ≡ true)
 text_closes b (between ch) e = (ch, e)
-text_closes b (raw1 w ch h) e = never e
-text_closes b (raw2 w ch h) e = never e
-text_closes b (raw3 a ch l) e = never e
-text_closes b (raw4 a ch l) e = never e
-text_closes b (slash ch) e = never e
-text_closes b (unit0 ch) e = never e
-text_closes b (unit1 a ch ha) e = never e
-text_closes b (unit2 a d ch ha hd f) e = never e
-text_closes b (unit3 a d c ch ha hd f hc) e = never e
-text_closes b (high-unit ch cu hi) e = never e
-text_closes b (high_slash ch cu hi) e = never e
-text_closes b (low0 ch cu hi) e = never e
-text_closes b (low1 a ch cu hi ha f) e = never e
-text_closes b (low2 a d ch cu hi ha f hd g) e = never e
-text_closes b (low3 a d c ch cu hi ha f hd g hc) e = never e
+text_closes b (raw1 w ch h) e = absurd (false≢true e)
+text_closes b (raw2 w ch h) e = absurd (false≢true e)
+text_closes b (raw3 a ch l) e = absurd (false≢true e)
+text_closes b (raw4 a ch l) e = absurd (false≢true e)
+text_closes b (slash ch) e = absurd (false≢true e)
+text_closes b (unit0 ch) e = absurd (false≢true e)
+text_closes b (unit1 a ch ha) e = absurd (false≢true e)
+text_closes b (unit2 a d ch ha hd f) e = absurd (false≢true e)
+text_closes b (unit3 a d c ch ha hd f hc) e = absurd (false≢true e)
+text_closes b (high-unit ch cu hi) e = absurd (false≢true e)
+text_closes b (high_slash ch cu hi) e = absurd (false≢true e)
+text_closes b (low0 ch cu hi) e = absurd (false≢true e)
+text_closes b (low1 a ch cu hi ha f) e = absurd (false≢true e)
+text_closes b (low2 a d ch cu hi ha f hd g) e = absurd (false≢true e)
+text_closes b (low3 a d c ch cu hi ha f hd g hc) e = absurd (false≢true e)
 
 -- ---- each can be completed
 
 abbrev pub Completed : List ℕ → Type 0
 Completed s = (q : List ℕ) × (cs : List ℕ) × Chars cs (s ++ q)
-
-pub way : (t : Bool) → (t ≡ true) ⊎ (t ≡ false)
-way true = inl refl
-way false = inr refl
 
 completed_front : (s x y : List ℕ) → Completed (s ++ (x ++ y)) → Completed (s ++ x)
 completed_front s x y h = (y ++ h.0, h.1, subst (Chars h.1) (simp append_assoc) h.2)
@@ -177,7 +173,7 @@ unit_completed {cs} {s} {w} ch cu (inr e) =
 
 -- four digits, the first two of which do not begin a low surrogate
 digits_completed : {cs s : List ℕ} (a b c d : ℕ) → Chars cs s → hex a ≡ true → hex b ≡ true → hex c ≡ true → hex d ≡ true → (eqb (hexed a) 13 && leb 12 (hexed b)) ≡ false → Completed (s ++ 92 ∷ 117 ∷ a ∷ b ∷ c ∷ d ∷ [])
-digits_completed {cs} {s} a b c d ch ha hb hc hd f = by_way (way (scalar (unit (hexed a) (hexed b) (hexed c) (hexed d))))
+digits_completed {cs} {s} a b c d ch ha hb hc hd f = by_way (cases_Bool (scalar (unit (hexed a) (hexed b) (hexed c) (hexed d))))
   where
     by_way : (scalar (unit (hexed a) (hexed b) (hexed c) (hexed d)) ≡ true) ⊎ (scalar (unit (hexed a) (hexed b) (hexed c) (hexed d)) ≡ false) → Completed (s ++ 92 ∷ 117 ∷ a ∷ b ∷ c ∷ d ∷ [])
     by_way (inl e) = unit_completed ch (CodeUnit.digits a b c d ha hb hc hd) (inl (scalar-alone (unit (hexed a) (hexed b) (hexed c) (hexed d)) e))
@@ -198,7 +194,7 @@ three_completed : {cs s : List ℕ} (a : ℕ) → Chars cs s → lead3 a ≡ tru
 three_completed {cs} {s} a ch l (inl e) =
     let b : ℕ = cond (eqb a 224) 160 128 in
     (b ∷ 128 ∷ [], _, subst (Chars _) (sym (append_assoc s (a ∷ []) (b ∷ 128 ∷ []))) (Chars.more ch (Character.raw (Raw.three a b 128 l e refl))))
-three_completed {cs} {s} a ch l (inr e) = never (sym e ∙ l)
+three_completed {cs} {s} a ch l (inr e) = absurd (false≢true (sym e ∙ l))
 
 pub text_completed : {x : Inside} {cs s : List ℕ} → TextPart x cs s → Completed s
 text_completed (between ch) = ([], _, subst (Chars _) (sym (append-nil _)) ch)

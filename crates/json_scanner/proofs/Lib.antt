@@ -1,3 +1,4 @@
+pub mod Cases
 pub mod Roomy
 pub mod Turns
 pub mod Strings

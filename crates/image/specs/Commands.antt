@@ -1,6 +1,8 @@
 -- The bytes of the commands.
-use Rattle.std.specs.Prelude.{ℕ, cond, List, [], ◌∷◌, Some, None, Option, ◌==◌}
+use Rattle.std.specs.Prelude.{◌≡◌, ℕ, cond, List, [], ◌∷◌, Some, None, Option, Result, ◌==◌}
+use Rattle.std.specs.Option.{ok_or}
 use Rattle.image.specs.declared.command.Command.{Command}
+use Rattle.image.specs.declared.command.UnknownCommand.{UnknownCommand}
 use Rattle.image.specs.declared.command.Command.TheVariants.{Null, False, True, Int, Uint, Empty, Text, Bytes, Duration, List as ListOf, Map, Present, Own, Old}
 
 -- the byte of a command
@@ -32,3 +34,7 @@ coded b (c ∷ cs) = cond (code c == b) (Some c) (coded b cs)
 -- the command that a byte stands for
 abbrev pub command : ℕ → Option Command
 command b = coded b commands
+
+-- the result is the command that the byte stands for, or says that there is none
+abbrev pub StandsFor : ℕ → Result Command UnknownCommand → Type 0
+StandsFor byte r = r ≡ ok_or (command byte) (record { 0 = byte })

@@ -5,6 +5,10 @@ use Rattle.std.proofs.Common.{of_z}
 use Rattle.image.specs.Typed.{Scalar, null, bool, int, uint, text, bytes, duration, Typed, Items, Members, scalar, list, map, no_items, item, no_members, member, items_count, members_count, OldSelf, absent, plain, empty, some, Scope}
 use Rattle.writer.specs.Written.{be4, be8}
 
+-- a command with bytes behind it, after their length
+abbrev pub sized : ℕ → List ℕ → List ℕ
+sized b s = b ∷ (be4 (length s) ++ s)
+
 -- a signed number is written in two's complement, and a text after its length
 abbrev pub scalar_image : Scalar → List ℕ
 scalar_image null = 0x00 ∷ []
@@ -12,8 +16,8 @@ scalar_image (bool false) = 0x01 ∷ []
 scalar_image (bool true) = 0x02 ∷ []
 scalar_image (int z) = 0x03 ∷ be8 (of_z w64 z)
 scalar_image (uint n) = 0x04 ∷ be8 n
-scalar_image (text s) = 0x06 ∷ (be4 (length s) ++ s)
-scalar_image (bytes s) = 0x07 ∷ (be4 (length s) ++ s)
+scalar_image (text s) = sized 0x06 s
+scalar_image (bytes s) = sized 0x07 s
 scalar_image (duration z) = 0x09 ∷ be8 (of_z w64 z)
 
 -- a list is its count and its values, a map its count and for each member the key and the value

@@ -1,5 +1,5 @@
 // The commands that an image is made of.
-ghost use Rattle.image.specs.Commands.{code, command};
+ghost use Rattle.image.specs.Commands.{StandsFor, code};
 ghost use Rattle.std.specs.Prelude.{◌≡◌};
 
 // `Present` marks an optional that has a value, `Own` and `Old` what a rule sees as self and oldSelf.
@@ -21,33 +21,40 @@ pub enum Command {
     Old = 0x11,
 }
 
-impl Command {
-    pub fn byte(self) -> u8
-        ensures { result ≡ code self }
-    {
-        self as u8
-    }
+// A byte that stands for no command.
+#[derive(Clone, Copy, PartialEq, Eq, Debug)]
+pub struct UnknownCommand(pub u8);
 
-    // The command that a byte stands for.
-    pub fn of(byte: u8) -> Option<Command>
-        ensures { result ≡ command byte }
-    {
+impl From<Command> for u8 {
+    ghost from_gives = { λ command byte. byte ≡ code command };
+
+    fn from(command: Command) -> u8 {
+        command as u8
+    }
+}
+
+impl TryFrom<u8> for Command {
+    type Error = UnknownCommand;
+
+    ghost try_from_gives = { StandsFor };
+
+    fn try_from(byte: u8) -> Result<Command, UnknownCommand> {
         match byte {
-            0x00 => Some(Command::Null),
-            0x01 => Some(Command::False),
-            0x02 => Some(Command::True),
-            0x03 => Some(Command::Int),
-            0x04 => Some(Command::Uint),
-            0x05 => Some(Command::Empty),
-            0x06 => Some(Command::Text),
-            0x07 => Some(Command::Bytes),
-            0x09 => Some(Command::Duration),
-            0x0A => Some(Command::List),
-            0x0B => Some(Command::Map),
-            0x0D => Some(Command::Present),
-            0x10 => Some(Command::Own),
-            0x11 => Some(Command::Old),
-            _ => None,
+            0x00 => Ok(Command::Null),
+            0x01 => Ok(Command::False),
+            0x02 => Ok(Command::True),
+            0x03 => Ok(Command::Int),
+            0x04 => Ok(Command::Uint),
+            0x05 => Ok(Command::Empty),
+            0x06 => Ok(Command::Text),
+            0x07 => Ok(Command::Bytes),
+            0x09 => Ok(Command::Duration),
+            0x0A => Ok(Command::List),
+            0x0B => Ok(Command::Map),
+            0x0D => Ok(Command::Present),
+            0x10 => Ok(Command::Own),
+            0x11 => Ok(Command::Old),
+            _ => Err(UnknownCommand(byte)),
         }
     }
 }

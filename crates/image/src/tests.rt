@@ -74,9 +74,9 @@ fn short_buffers(rt: HostRuntime) {
 
 #[test]
 fn commands(rt: HostRuntime) {
-    assert_eq!(rt; Command::of(0x06), Some(Command::Text));
-    assert_eq!(rt; Command::of(0x08), None);
-    assert_eq!(rt; Command::of(0x0d), Some(Command::Present));
-    assert_eq!(rt; Command::of(0xff), None);
-    assert_eq!(rt; Command::Old.byte(), 0x11);
+    assert_eq!(rt; Command::try_from(0x06), Ok(Command::Text));
+    assert_eq!(rt; Command::try_from(0x08), Err(UnknownCommand(0x08)));
+    assert_eq!(rt; Command::try_from(0x0d), Ok(Command::Present));
+    assert_eq!(rt; Command::try_from(0xff), Err(UnknownCommand(0xff)));
+    assert_eq!(rt; u8::from(Command::Old), 0x11);
 }

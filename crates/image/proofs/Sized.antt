@@ -29,12 +29,16 @@ pub length_held : {E F P : Type 0} (Q : E → Type 0) (r : Result ℕ E) {q : Re
 length_held Q (Ok x) h e v w = (h.0, (cc (h.1, e)))
 length_held Q (Err d) h e v w = absurd (let z : ⊥ = cc in z)
 
-module _ {A B E : Type 0} {w v u : ByteWriter} {b : ℕ} {s : List ℕ} {q : Result A E} {r : Result B E} (short : length s < 2 ^ 32) (room : is_ok q ≡ true) (first : Writes w v (front b s) q) (last : Writes v u s r) where
+-- a write that had room
+abbrev pub Wrote : ByteWriter → ByteWriter → List ℕ → Type 0
+Wrote old new s = Writes {A = ℕ} {E = ℕ} old new s (Ok 0)
+
+module _ {B E : Type 0} {w v u : ByteWriter} {b : ℕ} {s : List ℕ} {r : Result B E} (short : length s < 2 ^ 32) (first : Wrote w v (front b s)) (last : Writes v u s r) where
   head : front b s ≡ b ∷ be4 (length s)
   head = ap (λ t. cond t (b ∷ be4 (length s)) []) (lt-ltb (length s) (2 ^ 32) short)
 
   begun : Went w.out.now w.at (b ∷ be4 (length s)) v.out.now v.at
-  begun = rw head at (went w.out.now w.at (front b s) (sym first.ok ∙ room) first.out first.at)
+  begun = rw head at (went w.out.now w.at (front b s) (sym first.ok) first.out first.at)
 
   by_room : (t : Bool) → is_ok r ≡ t → WritesSized w u b s r
   by_room true e =
@@ -55,8 +59,8 @@ module _ {A B E : Type 0} {w v u : ByteWriter} {b : ℕ} {s : List ℕ} {q : Res
       }
 
 -- the command with the length had room, and then the bytes or not
-pub two_steps : {A B E : Type 0} {old mid new : ByteWriter} {b m : ℕ} {s : List ℕ} {q : Result A E} {r : Result B E} → (length s < 2 ^ 32) × (m ≡ length s) → Writes old mid (b ∷ be4 m) q → is_ok q ≡ true → Writes mid new s r → WritesSized old new b s r
-two_steps {b = b} {m} {s} {q} {r} h f o g =
+pub two_steps : {B E : Type 0} {old mid new : ByteWriter} {b m : ℕ} {s : List ℕ} {r : Result B E} → (length s < 2 ^ 32) × (m ≡ length s) → Wrote old mid (b ∷ be4 m) → Writes mid new s r → WritesSized old new b s r
+two_steps {old = w} {mid = v} {b = b} {m} {s} {r} h f g =
     let front_is : b ∷ be4 m ≡ front b s = ap (λ n. b ∷ be4 n) h.1 ∙ sym (ap (λ t. cond t (b ∷ be4 (length s)) []) (lt-ltb (length s) (2 ^ 32) h.0)) in
-    let f : Writes _ _ (front b s) q = rw front_is at f in
-    by_room h.0 o f g (is_ok r) refl
+    let first : Wrote w v (front b s) = rw front_is at f in
+    by_room h.0 first g (is_ok r) refl

@@ -10,4 +10,4 @@ returns-in_err-len c =
 
 pub returns : goal.returns
 returns c =
-    two_steps (length_held _ c.try_from.result c.try_from.ensures c.map_err.ensures.cases c.map_err.ensures.variant (search rules)) c.put_four.ensures (search rules) c.put.ensures
+    two_steps {m = c.in_ok-len.len} (length_held _ c.try_from.result c.try_from.ensures c.map_err.ensures.cases c.map_err.ensures.variant (search rules)) (search rules) c.put.ensures

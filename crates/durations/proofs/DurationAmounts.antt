@@ -1,14 +1,13 @@
--- Amounts are small, and take bytes from the text.
-use Rattle.std.proofs.Common.{◌≡◌, ℕ, ◌-◌, ◌*◌, ◌^◌, ◌<◌, ◌≤◌, eqb, List, [], ◌∷◌, length, drop, Some, sym, ap, ◌∙◌, mul-le-mul, div-le_self, arith, length-drop}
+-- Amounts take bytes from the text.
+use Rattle.std.proofs.Common.{◌≡◌, ℕ, ◌-◌, ◌<◌, ◌≤◌, eqb, List, [], ◌∷◌, length, drop, Some, sym, ap, ◌∙◌, arith, length-drop}
 use Rattle.std.proofs.lemmas.Bool.Decides.{nat_tests}
 use Rattle.std.specs.Option.{option_map}
 use Rattle.durations.specs.declared.duration.Figures.{Figures}
 use Rattle.durations.specs.declared.duration.Numeral.{Numeral}
 use Rattle.durations.specs.declared.duration.Unit.{Unit as TimeUnit}
-use Rattle.durations.specs.declared.duration.Unit.TheVariants.{Hour, Minute, Second, Millisecond, Microsecond, Nanosecond}
-use Rattle.durations.specs.Duration.{then, leading_figures, fraction, no_figures, numbered, leading_numeral, begins, units, unit_of, leading_unit, unit_nanoseconds, whole_nanoseconds, leading_amount}
+use Rattle.durations.specs.Duration.{then, leading_figures, fraction, no_figures, numbered, leading_numeral, begins, units, unit_of, leading_unit, whole_nanoseconds, leading_amount}
 use Rattle.durations.proofs.DurationOptions.{not_some, some_same, then_some, mapped_some, cond_some, none_cond}
-use Rattle.durations.proofs.DurationFigures.{figures_grown, fraction-grown, no_digit_fit, ten_at_most}
+use Rattle.durations.proofs.DurationFigures.{figures_grown, fraction-grown}
 
 -- the digits before the point, and all the digits
 pub record Numbered (s : List ℕ) (p : Numeral × List ℕ) : Type 0 where
@@ -39,49 +38,21 @@ numeral_parts s p e =
       rest = ap (λ q. q.1) (sym n.2);
     }
 
-pub record Small (s : List ℕ) (p : Numeral × List ℕ) : Type 0 where
-  pub digits : p.0.digits < 10 ^ 15
-  pub decimals : p.0.decimals ≤ 15
-  pub left : length p.1 < length s
-
-pub numeral_small : (s : List ℕ) (p : Numeral × List ℕ) → leading_numeral s ≡ Some p → Small s p
-numeral_small s p e =
+numeral_shrinks : (s : List ℕ) (p : Numeral × List ℕ) → leading_numeral s ≡ Some p → length p.1 < length s
+numeral_shrinks s p e =
     let n = numeral_parts s p e in
-    let w = figures_grown no_figures s n.whole no_digit_fit n.digits-first in
-    let a = fraction-grown n.whole.0 n.whole.1 n.all w.fit n.digits_all in
-    let v = ten_at_most n.all.0.value n.all.0.count 15 a.fit.1 a.fit.0 in
-    record {
-      digits = omega (arith, n.digits, v);
-      decimals = omega (arith, n.decimals, a.fit.0);
-      left = omega (arith, ap length n.rest, a.left, w.left, n.some);
-    }
+    let w = figures_grown no_figures s n.whole n.digits-first in
+    let a = fraction-grown n.whole.0 n.whole.1 n.all n.digits_all in
+    omega (arith, ap length n.rest, a.left, w.left, n.some)
 
-unit_of_shorter : (t : List (List ℕ × TimeUnit)) (s : List ℕ) (q : TimeUnit × List ℕ) → unit_of t s ≡ Some q → length q.1 ≤ length s
-unit_of_shorter [] s q e = not_some q e
-unit_of_shorter (x ∷ t) s q e =
+unit_shrinks : (t : List (List ℕ × TimeUnit)) (s : List ℕ) (q : TimeUnit × List ℕ) → unit_of t s ≡ Some q → length q.1 ≤ length s
+unit_shrinks [] s q e = not_some q e
+unit_shrinks (x ∷ t) s q e =
     cond_some (λ q. length q.1 ≤ length s) (begins x.0 s) (x.1, drop (length x.0) s) (unit_of t s) q e
-    (λ _. simp length-drop (omega arith)) (unit_of_shorter t s q)
+    (λ _. simp length-drop (omega arith)) (unit_shrinks t s q)
 
-unit_small : (u : TimeUnit) → unit_nanoseconds u ≤ 3600000000000
-unit_small Hour = omega arith
-unit_small Minute = omega arith
-unit_small Second = omega arith
-unit_small Millisecond = omega arith
-unit_small Microsecond = omega arith
-unit_small Nanosecond = omega arith
-
-pub record Shrinks (s : List ℕ) (a : ℕ × List ℕ) : Type 0 where
-  pub value : a.0 < 2 ^ 100
-  pub left : length a.1 < length s
-
-pub amount_shrinks : (s : List ℕ) (a : ℕ × List ℕ) → leading_amount s ≡ Some a → Shrinks s a
+pub amount_shrinks : (s : List ℕ) (a : ℕ × List ℕ) → leading_amount s ≡ Some a → length a.1 < length s
 amount_shrinks s a e =
     let n = then_some (leading_numeral s) (λ n. option_map (λ u. (whole_nanoseconds n.0 u.0, u.1)) (leading_unit n.1)) a e in
     let u = mapped_some (λ u. (whole_nanoseconds n.0.0 u.0, u.1)) (leading_unit n.0.1) a n.2 in
-    let small = numeral_small s n.0 n.1 in
-    let product : n.0.0.digits * unit_nanoseconds u.0.0 ≤ 10 ^ 15 * 3600000000000 = mul-le-mul {n₁ = n.0.0.digits} {m₁ = unit_nanoseconds u.0.0} {n₂ = 10 ^ 15} {m₂ = 3600000000000} (omega (arith, small.digits)) (unit_small u.0.0) in
-    let cut = div-le_self (n.0.0.digits * unit_nanoseconds u.0.0) (10 ^ n.0.0.decimals) in
-    record {
-      value = omega (arith, product, cut, ap (λ q. q.0) u.2);
-      left = omega (arith, unit_of_shorter units n.0.1 u.0 u.1, small.left, ap (λ q. length q.1) u.2);
-    }
+    omega (arith, unit_shrinks units n.0.1 u.0 u.1, numeral_shrinks s n.0 n.1, ap (λ q. length q.1) u.2)

@@ -16,7 +16,7 @@ use Rattle.durations.specs.declared.duration.Unit.TheVariants.{Hour, Minute, Sec
 use Rattle.durations.specs.Duration.{then, no_figures, longer, leading_figures, fraction, numbered, leading_numeral, leading_unit, unit_nanoseconds, whole_nanoseconds, leading_amount, sum_from, magnitude, sign, signed, duration}
 use Rattle.durations.specs.DurationGrammar.{Suffix, hour, minute, second, millisecond, microsecond, micro_sign, greek_mu, nanosecond, suffix_text, unit_value, Number, plain, pointed, digits, decimals, digits_text, number_text, Amount, amount_text, whole, amounts_text, total, Body, nought, amounts, all_amounts, body_text, Mark, bare, plus, minus, mark_text, marked, Reading, spell, value, ProperAmount, Proper, Short, Within}
 use Rattle.durations.proofs.DurationTexts.{BehindDigits, BehindNumber, BehindUnit, all_front, all_back, behind_digits, suffix_behind, amounts_behind, amounts_long, Unsigned, body_unsigned}
-use Rattle.durations.proofs.DurationSums.{sum_end, sum_next, magnitude_sum, duration_some}
+use Rattle.durations.proofs.DurationSums.{sum_end, sum_next, magnitude_sum, duration_parts}
 
 -- f with the digits ds behind it
 abbrev pub extended : Figures → List ℕ → Figures
@@ -178,5 +178,6 @@ pub reading_read : (r : Reading) → Proper r → Within r → duration (spell r
 reading_read r proper within =
     let s = body_text r.body in
     let n = total (all_amounts r.body) in
-    sym (duration_some (spell r) (mark_sign r.mark) s n (mark_read r.mark s (body_unsigned r.body proper)) (body_read r.body proper within.0 within.1))
+    duration_parts (spell r) (mark_sign r.mark) s (mark_read r.mark s (body_unsigned r.body proper))
+    ∙ ap (option_map (signed (mark_sign r.mark))) (body_read r.body proper within.0 within.1)
     ∙ ap (λ z. Some z) (mark_value r.mark n)

@@ -1,10 +1,10 @@
 -- Answers that may be missing.
-use Rattle.std.proofs.Common.{◌≡◌, ℕ, Bool, true, false, cond, Some, None, Option, refl, subst, arith}
+use Rattle.std.proofs.Common.{◌≡◌, Bool, true, false, cond, Some, None, Option, refl, subst}
 use Rattle.std.specs.Option.{option_map}
 use Rattle.durations.specs.Duration.{then}
 
 pub not_some : {A B : Type 0} (x : A) → ◌≡◌ {A = Option A} None (Some x) → B
-not_some x e = let z : ◌≡◌ {A = ℕ} 0 1 = cc in absurd (omega arith)
+not_some x e = absurd cc
 
 pub some_same : {A : Type 0} (x y : A) → ◌≡◌ {A = Option A} (Some x) (Some y) → x ≡ y
 some_same x y e = cc

@@ -43,7 +43,7 @@ Left o t s = (k : ℕ) × (length s < k) × (o ≡ sum_from k t s)
 pub left_next : (o : Option ℕ) (t u : ℕ) (s : List ℕ) (a : ℕ × List ℕ) → Left o t s → 0 < length s → leading_amount s ≡ Some a → u ≡ t + a.0 → u < 2 ^ 63 → Left o u a.1
 left_next o t u s a (zero, lt, e) h am sum small = absurd (omega arith)
 left_next o t u s a (suc k, lt, e) h am sum small =
-    (k, omega (arith, (amount_shrinks s a am).left), e ∙ sum_next k t s a h am (omega arith) ∙ ap (λ n. sum_from k n a.1) (sym sum))
+    (k, omega (arith, amount_shrinks s a am), e ∙ sum_next k t s a h am (omega arith) ∙ ap (λ n. sum_from k n a.1) (sym sum))
 
 pub left_over : (o : Option ℕ) (t u : ℕ) (s : List ℕ) (a : ℕ × List ℕ) → Left o t s → 0 < length s → leading_amount s ≡ Some a → u ≡ t + a.0 → 2 ^ 63 ≤ u → None ≡ o
 left_over o t u s a (k, lt, e) h am sum big = sym (e ∙ sum_over k t s a h am (omega arith))
@@ -80,10 +80,6 @@ magnitude_sum (b ∷ s) h no_zero =
     let k : (eqb b 48 && eqb (length s) 0) ≡ false = not-zero b s no_zero (eqb b 48) (eqb (length s) 0) refl refl in
     ap (λ c. cond c (Some 0) (sum_from (length (b ∷ s) + 1) 0 (b ∷ s))) k
 
-pub duration_none : (s : List ℕ) (g : Sign) (r : List ℕ) → sign s ≡ (g, r) → magnitude r ≡ None → None ≡ duration s
+pub duration_parts : (s : List ℕ) (g : Sign) (r : List ℕ) → sign s ≡ (g, r) → duration s ≡ option_map (signed g) (magnitude r)
 unfolding duration
-duration_none s g r e m = sym (ap (λ p. option_map (signed p.0) (magnitude p.1)) e ∙ ap (option_map (signed g)) m)
-
-pub duration_some : (s : List ℕ) (g : Sign) (r : List ℕ) (n : ℕ) → sign s ≡ (g, r) → magnitude r ≡ Some n → Some (signed g n) ≡ duration s
-unfolding duration
-duration_some s g r n e m = sym (ap (λ p. option_map (signed p.0) (magnitude p.1)) e ∙ ap (option_map (signed g)) m)
+duration_parts s g r e = ap (λ p. option_map (signed p.0) (magnitude p.1)) e

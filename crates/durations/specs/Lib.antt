@@ -1,3 +1,4 @@
 pub mod Duration
 pub mod DurationGrammar
 pub mod DurationCases
+pub mod Numbers

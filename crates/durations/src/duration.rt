@@ -1,7 +1,10 @@
-// Durations as Go writes them, such as `1h30m` or `-1.5s`.
-ghost use Rattle.std.specs.Prelude.{◌≡◌, ◌+◌, ◌^◌, ◌<◌, ◌≤◌, length};
+// Durations as Go writes them, such as `1h30m` or `-1.5s`. The readers take bytes apart by slice patterns, as the
+// project's rule for this reader is: each gives what it read and the rest of the text.
+ghost use Rattle.std.specs.Prelude.{◌≡◌, ◌+◌, ◌^◌, ◌<◌, ◌≤◌, length, IfSome};
 ghost use Rattle.durations.specs.Duration.{duration, fraction, leading_amount, leading_figures, leading_numeral, leading_unit, magnitude, seen, sign, signed, sum_from, unit_nanoseconds, whole_nanoseconds};
 ghost use Rattle.durations.specs.DurationGrammar.{DurationsRead};
+
+use std::marker::Model;
 
 // So many digits an amount may have: few enough that `u128` holds them times any unit.
 const MAX_DIGITS: u32 = 15;
@@ -27,24 +30,47 @@ enum Unit {
 }
 
 // Decimal digits: the number that they write, and how many they are.
-#[derive(Clone, Copy)]
+#[derive(Drop)]
 struct Figures {
     value: u64,
     count: u32,
 }
 
+impl Model for Figures {
+    ghost use Rattle.std.specs.Prelude.{◌^◌, ◌<◌, ◌≤◌};
+    ghost use Rattle.durations.specs.Numbers.{Written};
+
+    ghost Value = { Written };
+
+    ghost view = { λ a. record { value = a.value; count = a.count } };
+
+    ghost invariant = { λ a. (a.count ≤ 15) × (a.value < 10 ^ a.count) };
+}
+
 // A decimal number: `digits` over ten to the power of `decimals`.
-#[derive(Clone, Copy)]
+#[derive(Drop)]
 struct Numeral {
     digits: u64,
     decimals: u32,
 }
 
+impl Model for Numeral {
+    ghost use Rattle.std.specs.Prelude.{◌^◌, ◌<◌, ◌≤◌};
+    ghost use Rattle.durations.specs.Numbers.{Decimal};
+
+    ghost Value = { Decimal };
+
+    ghost view = { λ a. record { digits = a.digits; decimals = a.decimals } };
+
+    ghost invariant = { λ a. (a.digits < 10 ^ 15) × (a.decimals ≤ 15) };
+}
+
 impl Sign {
-    fn signed(self, nanoseconds: u64) -> i64
+    fn signed(self, nanoseconds: u128) -> i64
         requires { nanoseconds < 2 ^ 63 }
         ensures { result ≡ signed self nanoseconds }
     {
+        // it has room, as each caller shows
         let ahead = nanoseconds as i64;
         match self {
             Sign::Plus => ahead,
@@ -70,9 +96,10 @@ impl Unit {
 
 impl Numeral {
     // So many units in whole nanoseconds, exact up to the division, which cuts toward zero.
+    #[tactic(auto, using(crate::proofs::DurationFigures::ten_positive))]
     fn nanoseconds(self, unit: Unit) -> u128
-        requires { (self.digits < 10 ^ 15) × (self.decimals ≤ 15) }
-        ensures { result ≡ whole_nanoseconds self unit }
+        ensures exact { result ≡ whole_nanoseconds self unit }
+        ensures small { result < 2 ^ 100 }
     {
         let scaled = u128::from(self.digits) * u128::from(unit.nanoseconds());
         scaled / u128::from(10u64.pow(self.decimals))
@@ -107,9 +134,10 @@ fn read_unit(text: &[u8]) -> Option<(Unit, &[u8])>
 }
 
 // The digits of `start` and then those at the front of `text`.
+#[tactic(auto, using(crate::proofs::DurationFigures::ten_upto))]
 fn read_figures(text: &[u8], start: Figures) -> Option<(Figures, &[u8])>
-    requires { (start.count ≤ 15) × (start.value < 10 ^ start.count) }
-    ensures { seen result ≡ leading_figures start text.now }
+    ensures value { seen result ≡ leading_figures start text.now }
+    ensures more { IfSome result (λ p. start.count ≤ p.0.count) }
 {
     let mut read = start;
     let mut rest = text;
@@ -128,8 +156,8 @@ fn read_figures(text: &[u8], start: Figures) -> Option<(Figures, &[u8])>
 
 // The digits of `whole` and then those behind a point, if `text` begins with one.
 fn read_fraction(text: &[u8], whole: Figures) -> Option<(Figures, &[u8])>
-    requires { (whole.count ≤ 15) × (whole.value < 10 ^ whole.count) }
-    ensures { seen result ≡ fraction whole text.now }
+    ensures value { seen result ≡ fraction whole text.now }
+    ensures more { IfSome result (λ p. whole.count ≤ p.0.count) }
 {
     match text {
         [b'.', digits @ ..] => read_figures(digits, whole),
@@ -137,26 +165,27 @@ fn read_fraction(text: &[u8], whole: Figures) -> Option<(Figures, &[u8])>
     }
 }
 
+#[tactic(auto, using(crate::proofs::DurationFigures::ten_upto))]
 fn read_numeral(text: &[u8]) -> Option<(Numeral, &[u8])>
     ensures { seen result ≡ leading_numeral text.now }
 {
     let (whole, rest) = read_figures(text, Figures { value: 0, count: 0 })?;
+    let before_point = whole.count;
     let (all, rest) = read_fraction(rest, whole)?;
     if all.count == 0 {
         return None;
     }
-    Some((
-        Numeral {
-            digits: all.value,
-            decimals: all.count - whole.count,
-        },
-        rest,
-    ))
+    let numeral = Numeral {
+        digits: all.value,
+        decimals: all.count - before_point,
+    };
+    Some((numeral, rest))
 }
 
 // An amount in whole nanoseconds.
 fn read_amount(text: &[u8]) -> Option<(u128, &[u8])>
-    ensures { seen result ≡ leading_amount text.now }
+    ensures value { seen result ≡ leading_amount text.now }
+    ensures small { IfSome result (λ p. p.0 < 2 ^ 100) }
 {
     let (numeral, rest) = read_numeral(text)?;
     let (unit, rest) = read_unit(rest)?;
@@ -164,26 +193,27 @@ fn read_amount(text: &[u8]) -> Option<(u128, &[u8])>
 }
 
 // The sum of the amounts that `text` is made of.
-fn read_sum(text: &[u8]) -> Option<u64>
-    ensures { result ≡ sum_from (length text.now + 1) 0 text.now }
+fn read_sum(text: &[u8]) -> Option<u128>
+    ensures value { result ≡ sum_from (length text.now + 1) 0 text.now }
+    ensures small { IfSome result (λ n. n < 2 ^ 63) }
 {
-    let mut total: u64 = 0;
+    let mut total: u128 = 0;
     let mut rest = text;
     while !rest.is_empty() {
         let (nanoseconds, tail) = read_amount(rest)?;
-        let sum = u128::from(total) + nanoseconds;
+        total += nanoseconds;
         // No amount is more than the sum, so this tests each amount too.
-        if sum >= LIMIT {
+        if total >= LIMIT {
             return None;
         }
-        total = sum as u64;
         rest = tail;
     }
     Some(total)
 }
 
-fn read_magnitude(text: &[u8]) -> Option<u64>
-    ensures { result ≡ magnitude text.now }
+fn read_magnitude(text: &[u8]) -> Option<u128>
+    ensures value { result ≡ magnitude text.now }
+    ensures small { IfSome result (λ n. n < 2 ^ 63) }
 {
     match text {
         [] => None,
@@ -193,108 +223,11 @@ fn read_magnitude(text: &[u8]) -> Option<u64>
 }
 
 // The nanoseconds of a duration such as `1h30m` or `-1.5s`, or nothing if `input` is no duration or too long a one.
+#[tactic(auto, using(crate::proofs::DurationLaw::durations_read))]
 pub fn parse_go_duration(input: &[u8]) -> Option<i64>
     ensures value { result ≡ duration input.now }
     ensures law { DurationsRead }
 {
     let (sign, rest) = split_sign(input);
-    let magnitude = read_magnitude(rest)?;
-    Some(sign.signed(magnitude))
-}
-
-#[cfg(test)]
-mod tests {
-    use super::parse_go_duration;
-
-    // An amount of 15 digits close to 2^63 counts in steps of 10,000 nanoseconds at least, all of them even: none is 2^63 - 1, and none is 2^63.
-    const DURATIONS: [(&[u8], i64); 34] = [
-        (b"0", 0),
-        (b"+0", 0),
-        (b"-0", 0),
-        (b"0s", 0),
-        (b"1h30m", 5_400_000_000_000),
-        (b"1.5h", 5_400_000_000_000),
-        (b"+1s", 1_000_000_000),
-        (b"-1.5s", -1_500_000_000),
-        (b"1m1ms1us1ns", 60_001_001_001),
-        (b"1.s", 1_000_000_000),
-        (b".5s", 500_000_000),
-        (b"007s", 7_000_000_000),
-        (b"1.001us", 1_001),
-        (b"8.2s", 8_200_000_000),
-        (b"1.9ns", 1),
-        (b"-1.9ns", -1),
-        (b"1.9ns1.9ns", 2),
-        (b"1\xC2\xB5s", 1_000),
-        (b"1\xCE\xBCs", 1_000),
-        (b"1\xC2\xB5s1\xCE\xBCs1us", 3_000),
-        (b"999999999999999ns", 999_999_999_999_999),
-        (b"000000000000001s", 1_000_000_000),
-        (b"1.00000000000000s", 1_000_000_000),
-        (b".000000000000001h", 0),
-        (b".999999999999999s", 999_999_999),
-        (b"2562047h", 9_223_369_200_000_000_000),
-        (b"-2562047h", -9_223_369_200_000_000_000),
-        (b"2562047.78801521h", 9_223_372_036_854_756_000),
-        (b"153722867.280912m", 9_223_372_036_854_720_000),
-        (b"9223372036.85477s", 9_223_372_036_854_770_000),
-        (b"9223372036854.77ms", 9_223_372_036_854_770_000),
-        (b"9223372036s854775807ns", 9_223_372_036_854_775_807),
-        (b"-9223372036s854775807ns", -9_223_372_036_854_775_807),
-        (b"854775807ns9223372036s", 9_223_372_036_854_775_807),
-    ];
-
-    const TEXTS: [&[u8]; 37] = [
-        b"",
-        b"-",
-        b"+",
-        b"--1s",
-        b"+-1s",
-        b"-+0",
-        b"5",
-        b"00",
-        b"0.",
-        b".",
-        b".s",
-        b"-.",
-        b"s",
-        b"1..5s",
-        b"1.5.s",
-        b"1h30",
-        b"1h 30m",
-        b"1h ",
-        b"1d",
-        b"1u",
-        b"1n",
-        b"1mss",
-        b"1e3s",
-        b"1\xC2\xB5",
-        b"1\xC2",
-        b"1\xC2s",
-        b"1\xB5s",
-        b"1\xCE\xB5s",
-        b"1\xCE\xBC",
-        b"1000000000000000ns",
-        b"0000000000000001s",
-        b"1.000000000000000s",
-        b"2562048h",
-        b"2562047.78801522h",
-        b"9223372036s854775808ns",
-        b"-9223372036s854775808ns",
-        b"2562047h2562047h",
-    ];
-
-    #[test]
-    fn durations_are_read(rt: HostRuntime) {
-        for (text, nanoseconds) in DURATIONS {
-            assert_eq!(rt; parse_go_duration(text), Some(nanoseconds));
-        }
-    }
-
-    #[test]
-    fn texts_stay_text(rt: HostRuntime) {
-        for text in TEXTS {
-            assert_eq!(rt; parse_go_duration(text), None);
-        }
-    }
+    read_magnitude(rest).map(|nanoseconds| sign.signed(nanoseconds))
 }

@@ -4,3 +4,6 @@
 pub mod duration;
 
 pub use duration::parse_go_duration;
+
+#[cfg(test)]
+mod tests;

@@ -1,3 +1,2 @@
-pub mod Seeks
 pub mod Values
 pub mod Means

@@ -1,17 +1,13 @@
 -- The parts of a schema, which is a JSON value. One that is not an object has no parts.
-use Rattle.std.specs.Prelude.{ℕ, Bool, true, false, cond, List, [], ◌∷◌, Some, None, codes, Option}
+use Rattle.std.specs.Prelude.{ℕ, Bool, false, true, cond, List, [], ◌∷◌, Some, None, codes, Option, unwrap_or}
 use Rattle.json_values.specs.Value.{Value, Items, Members, null, bool, int, uint, text, list, map, no_item, item, no_member, member}
 use Rattle.schema.specs.declared.format.SchemaFormat.{SchemaFormat}
 use Rattle.schema.specs.declared.format.SchemaFormat.TheVariants as format
 use Rattle.schema.specs.declared.group.Group.{Group}
 use Rattle.schema.specs.declared.group.Group.TheVariants.{Properties, Items as ItemLink, Additional, AllOf, OneOf, AnyOf}
 use Rattle.std.specs.List.{flat_map}
+use Rattle.std.specs.Option.{option_and_then, option_map}
 use Rattle.std.specs.Str.{bytes_eq}
-
--- what f answers to the value in o, if there is one
-abbrev pub then : {A B : Type 0} → Option A → (A → Option B) → Option B
-then None f = None
-then (Some x) f = f x
 
 -- ---- objects and arrays
 
@@ -42,7 +38,7 @@ elements (map ms) = None
 
 -- the part of a schema under a key
 abbrev pub part : List ℕ → Value → Option Value
-part key s = then (members s) (member_in key)
+part key s = option_and_then (member_in key) (members s)
 
 abbrev pub items_list : Items → List Value
 items_list no_item = []
@@ -75,23 +71,21 @@ single (Some v) = v ∷ []
 
 -- ---- flags and formats
 
-abbrev pub is_true : Value → Bool
-is_true null = false
-is_true (bool b) = b
-is_true (int z) = false
-is_true (uint n) = false
-is_true (text t) = false
-is_true (list vs) = false
-is_true (map ms) = false
-
-abbrev pub literally_true : Option Value → Bool
-literally_true None = false
-literally_true (Some v) = is_true v
+-- a truth value
+abbrev pub bool_of : Value → Option Bool
+bool_of null = None
+bool_of (bool b) = Some b
+bool_of (int z) = None
+bool_of (uint n) = None
+bool_of (text t) = None
+bool_of (list vs) = None
+bool_of (map ms) = None
 
 -- a flag is set by a literal `true` alone
 abbrev pub flag : List ℕ → Value → Bool
-flag key s = literally_true (part key s)
+flag key s = unwrap_or (option_and_then bool_of (part key s)) false
 
+-- a text
 abbrev pub text_of : Value → Option (List ℕ)
 text_of null = None
 text_of (bool b) = None
@@ -108,18 +102,12 @@ named_format (Some t) = cond (bytes_eq t (codes "duration")) format.Duration (co
 
 -- the format of texts under a schema; int-or-string prevents any
 abbrev pub format_of : Value → SchemaFormat
-format_of s = cond (flag (codes "x-kubernetes-int-or-string") s) format.IntOrString (named_format (then (part (codes "format") s) text_of))
+format_of s = cond (flag (codes "x-kubernetes-int-or-string") s) format.IntOrString (named_format (option_and_then text_of (part (codes "format") s)))
 
 -- neither absent nor `false`
 abbrev pub open_to : Option Value → Bool
 open_to None = false
-open_to (Some null) = true
-open_to (Some (bool b)) = b
-open_to (Some (int z)) = true
-open_to (Some (uint n)) = true
-open_to (Some (text t)) = true
-open_to (Some (list vs)) = true
-open_to (Some (map ms)) = true
+open_to (Some v) = unwrap_or (bool_of v) true
 
 -- a map takes additional properties
 abbrev pub is_map : Value → Bool
@@ -129,26 +117,20 @@ is_map s = open_to (part (codes "additionalProperties") s)
 
 -- an object, as a schema that stands alone
 abbrev pub only_object : Value → Option Value
-only_object null = None
-only_object (bool b) = None
-only_object (int z) = None
-only_object (uint n) = None
-only_object (text t) = None
-only_object (list vs) = None
-only_object (map ms) = Some (map ms)
+only_object v = option_map (λ _. v) (members v)
 
 -- the names of the properties, ascending
 abbrev pub property_names : Value → List (List ℕ)
-property_names s = all_keys (then (part (codes "properties") s) members)
+property_names s = all_keys (option_and_then members (part (codes "properties") s))
 
 -- the schemas that a group of links leads to
 abbrev pub linked_by : Group → Value → List Value
-linked_by Properties s = all_members (then (part (codes "properties") s) members)
+linked_by Properties s = all_members (option_and_then members (part (codes "properties") s))
 linked_by ItemLink s = single (part (codes "items") s)
-linked_by Additional s = single (then (part (codes "additionalProperties") s) only_object)
-linked_by AllOf s = all_items (then (part (codes "allOf") s) elements)
-linked_by OneOf s = all_items (then (part (codes "oneOf") s) elements)
-linked_by AnyOf s = all_items (then (part (codes "anyOf") s) elements)
+linked_by Additional s = single (option_and_then only_object (part (codes "additionalProperties") s))
+linked_by AllOf s = all_items (option_and_then elements (part (codes "allOf") s))
+linked_by OneOf s = all_items (option_and_then elements (part (codes "oneOf") s))
+linked_by AnyOf s = all_items (option_and_then elements (part (codes "anyOf") s))
 
 -- the groups of links, in the order in which they are followed
 abbrev pub order : List Group

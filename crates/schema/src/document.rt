@@ -1,10 +1,9 @@
 // A schema's values, by the numbers of their entries.
-ghost use Rattle.std.specs.Prelude.{◌≡◌, ◌+◌, ◌^◌, ◌<◌, ◌≤◌, IfSome};
-ghost use Rattle.schema.specs.Entries.{below as lower, cell_in, elements_at, key_in, members_at, part_at, place_in, seek_in};
+ghost use Rattle.std.specs.Prelude.{◌≡◌, ◌+◌, ◌^◌, ◌<◌, find};
+ghost use Rattle.schema.specs.Entries.{below as lower, cell_in, elements_at, key_in, members_at, numbers_in, place_in};
 ghost use Rattle.schema.specs.Laws.{PartsMean};
 ghost use Rattle.std.specs.Str.{bytes_eq};
 
-use json_values::part_text;
 use json_values::table::{Cell, Entry, Span};
 
 // The entries of a table, and the text that their keys and texts are parts of.
@@ -16,8 +15,7 @@ pub struct Document<'a> {
 
 // The part of a span that lies below i: children stand below their container.
 fn below(span: Span, i: usize) -> Span
-    ensures value { result ≡ lower i span }
-    ensures within { result.first + result.count ≤ i }
+    ensures { result ≡ lower i span }
 {
     let first = span.first.min(i);
     let end = span.first.saturating_add(span.count).min(i);
@@ -27,92 +25,64 @@ fn below(span: Span, i: usize) -> Span
     }
 }
 
-pub(crate) fn same_bytes(a: &[u8], b: &[u8]) -> bool
-    ensures { result ≡ bytes_eq a.now b.now }
-{
-    a == b
-}
-
 impl<'a> Document<'a> {
     // What the entry i holds; one beyond the table holds nothing.
     pub fn cell(self, i: usize) -> Cell
         ensures { result ≡ cell_in self.entry.entries.now i }
     {
-        if i < self.entries.len() {
-            self.entries[i].cell
-        } else {
-            Cell::Null
-        }
+        self.entries.get(i).map_or(Cell::Null, |entry| entry.cell)
     }
 
     // The place of the first byte of the entry i.
     pub fn place(self, i: usize) -> usize
         ensures { result ≡ place_in self.entry.entries.now i }
     {
-        if i < self.entries.len() {
-            self.entries[i].place
-        } else {
-            0
-        }
+        self.entries.get(i).map_or(0, |entry| entry.place)
+    }
+
+    // The key of the entry i.
+    pub(crate) fn key(self, i: usize) -> &'a [u8]
+        ensures { result.now ≡ key_in self.entry.text.now self.entry.entries.now i }
+    {
+        self.entries
+            .get(i)
+            .map_or(&self.text[..0], |entry| entry.key.of(self.text))
     }
 
     // The members of the object i.
     pub fn members(self, i: usize) -> Option<Span>
-        ensures value { result ≡ members_at self.entry.entries.now i }
-        ensures within { IfSome result (λ sp. sp.first + sp.count ≤ i) }
+        ensures { result ≡ members_at self.entry.entries.now i }
     {
-        match self.cell(i) {
-            Cell::Map(span) => Some(below(span, i)),
-            _ => None,
-        }
+        self.cell(i).as_map().map(|span| below(span, i))
     }
 
     // The items of the array i.
     pub fn elements(self, i: usize) -> Option<Span>
-        ensures value { result ≡ elements_at self.entry.entries.now i }
-        ensures within { IfSome result (λ sp. sp.first + sp.count ≤ i) }
+        ensures { result ≡ elements_at self.entry.entries.now i }
     {
-        match self.cell(i) {
-            Cell::List(span) => Some(below(span, i)),
-            _ => None,
-        }
-    }
-
-    // The key of the entry i.
-    fn key(self, i: usize) -> &'a [u8]
-        ensures { result.now ≡ key_in self.entry.text.now self.entry.entries.now i }
-    {
-        if i < self.entries.len() {
-            part_text(self.text, self.entries[i].key)
-        } else {
-            &self.text[0..0]
-        }
+        self.cell(i).as_list().map(|span| below(span, i))
     }
 
     // The first entry of a span that has the key.
-    fn seek(self, span: Span, key: &[u8]) -> Option<usize>
+    pub(crate) fn seek(self, span: Span, key: &[u8]) -> Option<usize>
         requires { span.first + span.count < 2 ^ 64 }
-        ensures value { result ≡ seek_in (key_in self.entry.text.now self.entry.entries.now) key.now span }
-        ensures within { IfSome result (λ k. k < span.first + span.count) }
+        ensures { result ≡ find (λ k. bytes_eq (key_in self.entry.text.now self.entry.entries.now k) key.now) (numbers_in span) }
     {
-        let end = span.first + span.count;
-        for i in span.first..end {
-            if same_bytes(self.key(i), key) {
-                return Some(i);
-            }
-        }
-        None
+        (span.first..span.first + span.count).find(|&k| self.key(k) == key)
     }
 
-    // The part of the schema i under a key.
-    pub fn part(self, i: usize, key: &[u8]) -> Option<usize>
-        ensures value { result ≡ part_at self.entry.text.now self.entry.entries.now key.now i }
-        ensures within { IfSome result (λ k. k < i) }
+    // The schema that is the entry i.
+    pub fn schema(self, i: usize) -> SchemaAt<'a>
         ensures means { PartsMean self.entry.text.now self.entry.entries.now i }
+        ensures value { result ≡ record { doc = self.entry; at = i } }
     {
-        let Some(span) = self.members(i) else {
-            return None;
-        };
-        self.seek(span, key)
+        SchemaAt { doc: self, at: i }
     }
+}
+
+// A schema of a document, by the number of its entry.
+#[derive(Clone, Copy)]
+pub struct SchemaAt<'a> {
+    pub doc: Document<'a>,
+    pub at: usize,
 }

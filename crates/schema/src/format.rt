@@ -1,4 +1,6 @@
 // What a schema says of its texts.
+ghost use Rattle.std.specs.Prelude.{◌≡◌, Some};
+ghost use Rattle.schema.specs.Parts.{named_format};
 
 // The `format` of a schema. Texts under `Duration` and `Bytes` are converted, if they can be.
 #[derive(Clone, Copy, PartialEq, Eq, Debug)]
@@ -8,4 +10,17 @@ pub enum SchemaFormat {
     // An integer or a text: no format counts.
     IntOrString,
     None,
+}
+
+impl SchemaFormat {
+    // The format with that name.
+    pub(crate) fn named(name: &[u8]) -> SchemaFormat
+        ensures { result ≡ named_format (Some name.now) }
+    {
+        match name {
+            b"duration" => SchemaFormat::Duration,
+            b"byte" => SchemaFormat::Bytes,
+            _ => SchemaFormat::None,
+        }
+    }
 }

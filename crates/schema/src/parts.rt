@@ -1,179 +1,115 @@
 // The parts of a schema, each by its key.
-ghost use Rattle.std.specs.Prelude.{◌≡◌, ◌+◌, ◌<◌, ◌≤◌, IfSome, Some, codes, MatchOption};
-ghost use Rattle.schema.specs.Entries.{alone, elements_at, flag_at, format_at, is_map_at, members_at, object_at, open_cell, or_nowhere, part_at, rules_at, targets_at, text_at, text_cell, true_cell};
-ghost use Rattle.schema.specs.Parts.{named_format, then};
+ghost use Rattle.std.specs.Prelude.{◌≡◌, codes, unwrap_or};
+ghost use Rattle.schema.specs.Entries.{alone, additional_at, cell_under, elements_under, flag_at, format_at, is_map_at, links_at, part_at, rules_at, targets_at, text_at};
 
-use super::document::{Document, same_bytes};
+use super::document::SchemaAt;
 use super::format::SchemaFormat;
 use super::group::Group;
-use json_values::part_text;
 use json_values::parts::Part;
 use json_values::table::{Cell, Span};
 
-// No entries.
-const NOWHERE: Span = Span { first: 0, count: 0 };
-
-fn is_true(cell: Cell) -> bool
-    ensures { result ≡ true_cell cell }
+// The span of one entry.
+fn alone(first: usize) -> Span
+    ensures { result ≡ alone first }
 {
-    match cell {
-        Cell::Bool(b) => b,
-        _ => false,
-    }
+    Span { first, count: 1 }
 }
 
-fn is_open(cell: Cell) -> bool
-    ensures { result ≡ open_cell cell }
-{
-    match cell {
-        Cell::Bool(b) => b,
-        _ => true,
-    }
-}
-
-fn text_in(cell: Cell) -> Option<Part>
-    ensures { result ≡ text_cell cell }
-{
-    match cell {
-        Cell::Text(part) => Some(part),
-        _ => None,
-    }
-}
-
-// The format with that name.
-fn named_format(name: &[u8]) -> SchemaFormat
-    ensures { result ≡ named_format (Some name.now) }
-{
-    if same_bytes(name, b"duration") {
-        SchemaFormat::Duration
-    } else if same_bytes(name, b"byte") {
-        SchemaFormat::Bytes
-    } else {
-        SchemaFormat::None
-    }
-}
-
-// One entry, or none.
-fn alone(i: Option<usize>) -> Span
-    ensures value { result ≡ alone i }
-    ensures within { MatchOption i (result.first + result.count ≡ 0) (λ k. result.first + result.count ≡ k + 1) }
-{
-    match i {
-        Some(first) => Span { first, count: 1 },
-        None => NOWHERE,
-    }
-}
-
-fn or_nowhere(span: Option<Span>) -> Span
-    ensures value { result ≡ or_nowhere span }
-    ensures within { MatchOption span (result.first + result.count ≡ 0) (λ sp. result.first + result.count ≡ sp.first + sp.count) }
-{
-    match span {
-        Some(span) => span,
-        None => NOWHERE,
-    }
-}
-
-impl Document<'_> {
-    // Whether a flag is set: by a literal `true` alone.
-    pub fn flag(self, i: usize, key: &[u8]) -> bool
-        ensures { result ≡ flag_at self.entry.text.now self.entry.entries.now key.now i }
+impl SchemaAt<'_> {
+    // The part of the schema under a key: the first of its members that has the key.
+    #[tactic(auto, using(crate::proofs::Means::members_below), unfolding(crate::specs::Entries::part_at))]
+    pub fn part(self, key: &[u8]) -> Option<usize>
+        ensures { result ≡ part_at self.entry.doc.text.now self.entry.doc.entries.now key.now self.entry.at }
     {
-        match self.part(i, key) {
-            Some(k) => is_true(self.cell(k)),
-            None => false,
-        }
+        self.doc.seek(self.doc.members(self.at)?, key)
+    }
+
+    // What stands under a key.
+    pub(crate) fn cell_under(self, key: &[u8]) -> Option<Cell>
+        ensures { result ≡ cell_under self.entry.doc.text.now self.entry.doc.entries.now key.now self.entry.at }
+    {
+        Some(self.doc.cell(self.part(key)?))
+    }
+
+    // Whether a flag is set: by a literal `true` alone.
+    pub fn flag(self, key: &[u8]) -> bool
+        ensures { result ≡ flag_at self.entry.doc.text.now self.entry.doc.entries.now key.now self.entry.at }
+    {
+        self.cell_under(key)
+            .and_then(Cell::as_bool)
+            .unwrap_or(false)
     }
 
     // Whether additional properties are taken: the key is there, and not `false`.
-    pub fn is_map(self, i: usize) -> bool
-        ensures { result ≡ is_map_at self.entry.text.now self.entry.entries.now i }
+    #[tactic(auto, unfolding(crate::specs::Entries::part_at))]
+    pub fn is_map(self) -> bool
+        ensures { result ≡ is_map_at self.entry.doc.text.now self.entry.doc.entries.now self.entry.at }
     {
-        match self.part(i, b"additionalProperties") {
-            Some(k) => is_open(self.cell(k)),
-            None => false,
-        }
+        self.cell_under(b"additionalProperties")
+            .map_or(false, |cell| cell.as_bool().unwrap_or(true))
     }
 
     // The text under a key.
-    pub fn text_at(self, i: usize, key: &[u8]) -> Option<Part>
-        ensures { result ≡ text_at self.entry.text.now self.entry.entries.now key.now i }
+    pub fn text_at(self, key: &[u8]) -> Option<Part>
+        ensures { result ≡ text_at self.entry.doc.text.now self.entry.doc.entries.now key.now self.entry.at }
     {
-        match self.part(i, key) {
-            Some(k) => text_in(self.cell(k)),
-            None => None,
-        }
+        self.cell_under(key)?.as_text()
     }
 
-    // The format of texts under the schema i.
-    pub fn format(self, i: usize) -> SchemaFormat
-        ensures { result ≡ format_at self.entry.text.now self.entry.entries.now i }
+    // The format of texts under the schema.
+    pub fn format(self) -> SchemaFormat
+        ensures { result ≡ format_at self.entry.doc.text.now self.entry.doc.entries.now self.entry.at }
     {
-        if self.flag(i, b"x-kubernetes-int-or-string") {
+        if self.flag(b"x-kubernetes-int-or-string") {
             return SchemaFormat::IntOrString;
         }
-        match self.text_at(i, b"format") {
-            Some(name) => named_format(part_text(self.text, name)),
-            None => SchemaFormat::None,
-        }
-    }
-
-    // The members of the object under a key.
-    fn members_under(self, i: usize, key: &[u8]) -> Span
-        ensures value { result ≡ or_nowhere (then (part_at self.entry.text.now self.entry.entries.now key.now i) (members_at self.entry.entries.now)) }
-        ensures within { result.first + result.count ≤ i }
-    {
-        match self.part(i, key) {
-            Some(k) => or_nowhere(self.members(k)),
-            None => NOWHERE,
-        }
+        self.text_at(b"format").map_or(
+            SchemaFormat::None,
+            |name| SchemaFormat::named(name.of(self.doc.text)),
+        )
     }
 
     // The items of the array under a key.
-    fn elements_under(self, i: usize, key: &[u8]) -> Span
-        ensures value { result ≡ or_nowhere (then (part_at self.entry.text.now self.entry.entries.now key.now i) (elements_at self.entry.entries.now)) }
-        ensures within { result.first + result.count ≤ i }
+    fn elements_under(self, key: &[u8]) -> Option<Span>
+        ensures { result ≡ elements_under self.entry.doc.text.now self.entry.doc.entries.now key.now self.entry.at }
     {
-        match self.part(i, key) {
-            Some(k) => or_nowhere(self.elements(k)),
-            None => NOWHERE,
-        }
+        self.doc.elements(self.part(key)?)
     }
 
     // The schema that additional properties have, if an object stands there.
-    fn additional(self, i: usize) -> Option<usize>
-        ensures value { result ≡ then (part_at self.entry.text.now self.entry.entries.now (codes "additionalProperties") i) (object_at self.entry.entries.now) }
-        ensures within { IfSome result (λ k. k < i) }
+    fn additional(self) -> Option<usize>
+        ensures { result ≡ additional_at self.entry.doc.text.now self.entry.doc.entries.now self.entry.at }
     {
-        let Some(k) = self.part(i, b"additionalProperties") else {
-            return None;
-        };
-        match self.members(k) {
-            Some(_) => Some(k),
-            None => None,
-        }
+        let k = self.part(b"additionalProperties")?;
+        self.doc.members(k).map(|_| k)
     }
 
-    // The entries that a group of links leads to from the schema i.
-    pub fn targets(self, i: usize, group: Group) -> Span
-        ensures value { result ≡ targets_at self.entry.text.now self.entry.entries.now group i }
-        ensures within { result.first + result.count ≤ i }
+    // The entries that a group of links leads to, if what is under its key has entries.
+    fn links(self, group: Group) -> Option<Span>
+        ensures { result ≡ links_at self.entry.doc.text.now self.entry.doc.entries.now group self.entry.at }
     {
         match group {
-            Group::Properties => self.members_under(i, b"properties"),
-            Group::Items => alone(self.part(i, b"items")),
-            Group::Additional => alone(self.additional(i)),
-            Group::AllOf => self.elements_under(i, b"allOf"),
-            Group::OneOf => self.elements_under(i, b"oneOf"),
-            Group::AnyOf => self.elements_under(i, b"anyOf"),
+            Group::Properties => self.doc.members(self.part(b"properties")?),
+            Group::Items => self.part(b"items").map(alone),
+            Group::Additional => self.additional().map(alone),
+            Group::AllOf => self.elements_under(b"allOf"),
+            Group::OneOf => self.elements_under(b"oneOf"),
+            Group::AnyOf => self.elements_under(b"anyOf"),
         }
     }
 
-    // The entries of the rules of the schema i.
-    pub fn rules(self, i: usize) -> Span
-        ensures value { result ≡ rules_at self.entry.text.now self.entry.entries.now i }
-        ensures within { result.first + result.count ≤ i }
+    // The entries that a group of links leads to.
+    pub fn targets(self, group: Group) -> Span
+        ensures { result ≡ targets_at self.entry.doc.text.now self.entry.doc.entries.now group self.entry.at }
     {
-        self.elements_under(i, b"x-kubernetes-validations")
+        self.links(group).unwrap_or_default()
+    }
+
+    // The entries of the rules of the schema.
+    pub fn rules(self) -> Span
+        ensures { result ≡ rules_at self.entry.doc.text.now self.entry.doc.entries.now self.entry.at }
+    {
+        self.elements_under(b"x-kubernetes-validations")
+            .unwrap_or_default()
     }
 }

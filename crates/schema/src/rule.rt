@@ -2,7 +2,7 @@
 use json_values::parts::Part;
 
 // A rule: its texts are parts of the schema's text, and an absent text is told from an empty one.
-#[derive(Clone, Copy)]
+#[derive(Clone, Copy, PartialEq, Eq, Debug)]
 pub struct Rule {
     pub rule: Part,
     pub message: Option<Part>,

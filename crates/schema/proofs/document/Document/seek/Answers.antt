@@ -1,27 +1,15 @@
-use Rattle.std.proofs.Common.{◌≡◌, ℕ, ◌+◌, ◌-◌, true, false, List, sym, ap, ◌∙◌, arith}
-use Rattle.schema.specs.Entries.{key_in, seek}
-use Rattle.schema.proofs.Seeks.{seek_end, seek_here, seek_on}
+use Rattle.std.proofs.Common.{rules, tests, ◌≡◌, ℕ, Bool, ◌+◌, ◌-◌, arith, refl, sym, ◌∙◌}
+use Rattle.std.proofs.lemmas.Iterator.{YieldsList-from_range}
+use Rattle.std.proofs.lemmas.Iterator.Adapters.{option_map_id}
+use Rattle.std.proofs.lemmas.Iterator.Search.{find_from_yields_List}
 use Rattle.std.specs.Str.{bytes_eq}
+use Rattle.schema.specs.Entries.{key_in}
 use Rattle.schema.proofs.document.Document.seek.Goals as goal
-
-pub returns-then-same_bytes : goal.returns-then-same_bytes
-returns-then-same_bytes c =
-    let f = key_in c.args.self.text.now c.args.self.entries.now in
-    let end : ℕ = c.args.span.first + c.args.span.count in
-    let same : bytes_eq (f c.loop-i.i) c.args.key.now ≡ true = ap (λ (z : List ℕ). bytes_eq z c.args.key.now) (sym c.key.ensures) ∙ (sym c.same_bytes.ensures ∙ c.if-same_bytes.true) in
-    let count : end - c.args.span.first ≡ c.args.span.count = omega arith in
-    record { value = sym (ap (seek f c.args.key.now c.args.span.first) (sym count) ∙ (c.loop-i.invariant ∙ seek_here f c.args.key.now c.loop-i.i end c.loop-i-test.true same)); within = c.loop-i-test.true }
-
-pub loop-i-preserved : goal.loop-i-preserved
-loop-i-preserved c =
-    let f = key_in c.args.self.text.now c.args.self.entries.now in
-    let end : ℕ = c.args.span.first + c.args.span.count in
-    let other : bytes_eq (f c.loop-i.i) c.args.key.now ≡ false = ap (λ (z : List ℕ). bytes_eq z c.args.key.now) (sym c.key.ensures) ∙ (sym c.same_bytes.ensures ∙ c.if-same_bytes.false) in
-    c.loop-i.invariant ∙ seek_on f c.args.key.now c.loop-i.i end c.loop-i-test.true other
 
 pub returns : goal.returns
 returns c =
-    let f = key_in c.args.self.text.now c.args.self.entries.now in
     let end : ℕ = c.args.span.first + c.args.span.count in
-    let count : end - c.args.span.first ≡ c.args.span.count = omega arith in
-    record { value = sym (ap (seek f c.args.key.now c.args.span.first) (sym count) ∙ (c.loop-i.invariant ∙ seek_end f c.args.key.now c.loop-i.i end c.loop-i-test.false)); within = tt }
+    let n : end - c.args.span.first ≡ c.args.span.count = omega arith in
+    let test : ℕ → Bool = λ k. bytes_eq (key_in c.args.self.text.now c.args.self.entries.now k) c.args.key.now in
+    let e = find_from_yields_List test _ _ c.find.result c.find.ensures.ran (YieldsList-from_range c.args.span.first end c.args.span.count refl n) (λ x b q k. search (rules, tests)) in
+    sym (option_map_id c.find.result) ∙ e

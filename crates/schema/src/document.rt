@@ -1,5 +1,6 @@
 // A schema's values, by the numbers of their entries.
-ghost use Rattle.std.specs.Prelude.{◌≡◌, ◌+◌, ◌^◌, ◌<◌, find};
+ghost use Rattle.std.specs.Prelude.{◌≡◌, ◌+◌, ◌^◌, ◌<◌, find, slice_index_or};
+ghost use Rattle.json_values.specs.Meaning.{no_entry};
 ghost use Rattle.schema.specs.Entries.{below as lower, cell_in, elements_at, key_in, members_at, numbers_in, place_in};
 ghost use Rattle.schema.specs.Laws.{PartsMean};
 ghost use Rattle.std.specs.Str.{bytes_eq};
@@ -26,27 +27,32 @@ fn below(span: Span, i: usize) -> Span
 }
 
 impl<'a> Document<'a> {
-    // What the entry i holds; one beyond the table holds nothing.
+    // The entry i; beyond the table stands nothing.
+    fn entry(self, i: usize) -> Entry
+        ensures { result ≡ slice_index_or self.entry.entries.now i no_entry }
+    {
+        self.entries.get(i).copied().unwrap_or_default()
+    }
+
+    // What the entry i holds.
     pub fn cell(self, i: usize) -> Cell
         ensures { result ≡ cell_in self.entry.entries.now i }
     {
-        self.entries.get(i).map_or(Cell::Null, |entry| entry.cell)
+        self.entry(i).cell
     }
 
     // The place of the first byte of the entry i.
     pub fn place(self, i: usize) -> usize
         ensures { result ≡ place_in self.entry.entries.now i }
     {
-        self.entries.get(i).map_or(0, |entry| entry.place)
+        self.entry(i).place
     }
 
     // The key of the entry i.
-    pub(crate) fn key(self, i: usize) -> &'a [u8]
+    fn key(self, i: usize) -> &'a [u8]
         ensures { result.now ≡ key_in self.entry.text.now self.entry.entries.now i }
     {
-        self.entries
-            .get(i)
-            .map_or(&self.text[..0], |entry| entry.key.of(self.text))
+        self.entry(i).key.of(self.text)
     }
 
     // The members of the object i.

@@ -1,54 +1,43 @@
 -- The laws of compilations, and of the list of accepted expressions.
-use Rattle.std.proofs.Common.{◌≡◌, ℕ, zero, suc, ◌+◌, ◌<◌, ◌≤◌, Bool, true, false, cond, List, [], ◌∷◌, ◌++◌, length, get_or, Some, None, Option, sym, refl, ap, ◌∙◌, ⊎_elim, arith}
-use Rattle.std.specs.Option.{option_map}
+use Rattle.std.proofs.Common.{◌≡◌, ℕ, ◌+◌, ◌<◌, ◌≤◌, Bool, true, false, List, [], ◌∷◌, ◌++◌, length, get_or, Some, None, Ok, Option, position, sym, refl, ap, ◌∙◌, ⊎_elim, not, arith}
+use Rattle.std.specs.List.{position_or_len}
 use Rattle.std.specs.Str.{bytes_eq}
 use Rattle.std.proofs.lemmas.Slice.Eq.{bytes_eq-Decides}
 use Rattle.std.proofs.lemmas.List.{length_push, get_or_push, get_or_append_left}
+use Rattle.std.proofs.lemmas.List.Folds.{position_or_len_push}
+use Rattle.std.proofs.lemmas.List.Quantifiers.{position-Some}
+use Rattle.std.proofs.lemmas.List.Sums.{fails_before_first, prefix_len-le-length}
 use Rattle.std.proofs.lemmas.Bool.{and_parts, leb-true, both_ways, cases_lt}
-use Rattle.rule_host.specs.Compiling.{program, place, total, has_room, judged, compiled, Distinct}
+use Rattle.std.proofs.lemmas.Grind.{common_steps}
+use Rattle.rule_host.specs.Compiling.{place, total, has_room, judged, compiled, Distinct}
 use Rattle.rule_host.specs.Laws.{CompilingLaws}
 use Rattle.rule_host.specs.Meaning.{Meaning, Judgement, well, ill}
 
--- an expression is the same as itself
-pub same_self : (e : List ℕ) → bytes_eq e e ≡ true
-same_self e = (bytes_eq-Decides e e).1 refl
+-- ---- the first place of an expression
 
--- the place of an expression, by whether the first of the list is the one
-pub place_here : (e x : List ℕ) (xs : List (List ℕ)) (b : Bool) (k : Option ℕ) (n : ℕ) → bytes_eq x e ≡ b → place e xs ≡ k → cond b (Some 0) (option_map suc k) ≡ Some n → ((j : ℕ) → k ≡ Some j → (j < length xs) × (get_or xs j [] ≡ e)) → (n < length (x ∷ xs)) × (get_or (x ∷ xs) n [] ≡ e)
-place_here e x xs true k zero s p q h = (omega arith, (bytes_eq-Decides x e).0 s)
-place_here e x xs true k (suc n) s p q h = let z : ◌≡◌ {A = ℕ} 0 1 = cc in absurd (omega arith)
-place_here e x xs false None n s p q h = let z : ◌≡◌ {A = ℕ} 0 1 = cc in absurd (omega arith)
-place_here e x xs false (Some j) zero s p q h = let z : ◌≡◌ {A = ℕ} 0 1 = cc in absurd (omega arith)
-place_here e x xs false (Some j) (suc n) s p q h =
-    let i : j ≡ n = cc in
-    let hj = h j refl in
-    (omega (arith, hj.0, i), ap (λ (t : ℕ). get_or xs t []) (sym i) ∙ hj.1)
+-- what stands there is the expression
+place_some : (e : List ℕ) (acc : List (List ℕ)) (n : ℕ) → place e acc ≡ Some n → (n < length acc) × (get_or acc n [] ≡ e)
+place_some e acc n h = let s = position-Some (λ x. bytes_eq x e) acc n [] h in (s.0, (bytes_eq-Decides (get_or acc n []) e).0 s.1)
 
--- what stands at the place of an expression is the expression
-pub place_some : (e : List ℕ) (acc : List (List ℕ)) (n : ℕ) → place e acc ≡ Some n → (n < length acc) × (get_or acc n [] ≡ e)
-place_some e [] n h = let z : ◌≡◌ {A = ℕ} 0 1 = cc in absurd (omega arith)
-place_some e (x ∷ xs) n h = place_here e x xs (bytes_eq x e) (place e xs) n refl refl h (place_some e xs)
+-- where there is none, the search passes the end
+pub past_end : {X : Type 0} (p : X → Bool) (xs : List X) → position p xs ≡ None → length xs ≤ position_or_len p xs
+past_end p xs h = grind (arith, common_steps)
 
-mapped_none : (k : Option ℕ) → option_map suc k ≡ None → k ≡ None
-mapped_none None h = refl
-mapped_none (Some j) h = cc
-
-none_here : (b : Bool) (k : Option ℕ) → cond b (Some 0) (option_map suc k) ≡ None → (b ≡ false) × (k ≡ None)
-none_here true k h = let z : ◌≡◌ {A = ℕ} 0 1 = cc in absurd (omega arith)
-none_here false k h = (refl, mapped_none k h)
-
--- an expression without a place stands nowhere
-pub place_none : (e : List ℕ) (acc : List (List ℕ)) → place e acc ≡ None → (k : ℕ) → k < length acc → get_or acc k [] ≡ e → ⊥
-place_none e [] h k l q = omega arith
-place_none e (x ∷ xs) h zero l q = both_ways (bytes_eq x e) (none_here (bytes_eq x e) (place e xs) h).0 ((bytes_eq-Decides x e).1 q)
-place_none e (x ∷ xs) h (suc k) l q = place_none e xs (none_here (bytes_eq x e) (place e xs) h).1 k (omega arith) q
+-- and the expression stands nowhere
+place_none : (e : List ℕ) (acc : List (List ℕ)) → place e acc ≡ None → (k : ℕ) → k < length acc → get_or acc k [] ≡ e → ⊥
+place_none e acc h k l q =
+    let here = λ (x : List ℕ). bytes_eq x e in
+    let past = past_end here acc h in
+    both_ways (here (get_or acc k [])) (fails_before_first here acc k [] (omega arith)) ((bytes_eq-Decides (get_or acc k []) e).1 q)
 
 -- one that is put at the end has its place there
-pub place_push : (e : List ℕ) (acc : List (List ℕ)) → place e acc ≡ None → place e (acc ++ e ∷ []) ≡ Some (length acc)
-place_push e [] h = ap (λ (b : Bool). cond b (Some 0) (option_map suc (place e []))) (same_self e)
-place_push e (x ∷ xs) h =
-    let n = none_here (bytes_eq x e) (place e xs) h in
-    ap (λ (b : Bool). cond b (Some 0) (option_map suc (place e (xs ++ e ∷ [])))) n.0 ∙ ap (option_map suc) (place_push e xs n.1)
+place_push : (e : List ℕ) (acc : List (List ℕ)) → place e acc ≡ None → place e (acc ++ e ∷ []) ≡ Some (length acc)
+place_push e acc h =
+    let here = λ (x : List ℕ). bytes_eq x e in
+    let same = (bytes_eq-Decides e e).1 refl in
+    grind (arith, common_steps, past_end here acc h, prefix_len-le-length (λ x. not (here x)) acc, position_or_len_push here acc e, length_push acc e, same)
+
+-- ---- the bytes of the list, and its expressions
 
 pub total_push : (acc : List (List ℕ)) (e : List ℕ) → total (acc ++ e ∷ []) ≡ total acc + length e
 total_push [] e = omega arith
@@ -77,7 +66,7 @@ module _ (m : Meaning) (acc : List (List ℕ)) (e : List ℕ) where
       ∙ ap (λ (o : Option ℕ). judged acc e (has_room m acc e) o well) b
       ∙ ap (λ (o : Bool). judged acc e o None well) c
 
-  stands : (j : Judgement) (k : Option ℕ) (r : Bool) (n : ℕ) → place e acc ≡ k → (judged acc e r k j).0 ≡ program n → (n < length (judged acc e r k j).1) × (get_or (judged acc e r k j).1 n [] ≡ e)
+  stands : (j : Judgement) (k : Option ℕ) (r : Bool) (n : ℕ) → place e acc ≡ k → (judged acc e r k j).0 ≡ Ok n → (n < length (judged acc e r k j).1) × (get_or (judged acc e r k j).1 n [] ≡ e)
   stands (ill t) k r n b h = let z : ◌≡◌ {A = ℕ} 0 1 = cc in absurd (omega arith)
   stands well (Some i) r n b h = let q : i ≡ n = cc in place_some e acc n (b ∙ ap Some q)
   stands well None true n b h =

@@ -1,28 +1,26 @@
--- What an answer book and its maker hold.
-use Rattle.std.specs.Prelude.{ℕ, List, map}
-use Rattle.fixed.specs.Listed.{listed}
-use Rattle.rule_host.specs.Rows.{Row}
-use Rattle.rule_host.specs.Stored.{part_of, row_in}
-use Rattle.rule_host.specs.declared.answer_book.AnswerBook.{AnswerBook}
-use Rattle.rule_host.specs.declared.book.Book.{Book}
-use Rattle.rule_host.specs.declared.maker.BookMaker.{BookMaker}
-
--- the bytes that the rows are parts of
-abbrev pub bytes_in : Book → List ℕ
-bytes_in b = listed b.arena
+-- How a book keeps its rows in an arena of bytes.
+use Rattle.std.specs.Prelude.{◌≡◌, ℕ, ◌+◌, ◌≤◌, List, map, length, All}
+use Rattle.std.specs.Option.{IfSome}
+use Rattle.fixed.specs.declared.slice.Slice.{Slice}
+use Rattle.rule_host.specs.Outcomes.{text_of}
+use Rattle.rule_host.specs.Rows.{BookRow, present, rows_bytes}
+use Rattle.rule_host.specs.Stored.{stored_at}
+use Rattle.rule_host.specs.declared.book.Book.TheInside.{Inside}
+use Rattle.rule_host.specs.declared.row.Row.{Row}
 
 -- the rows, first to last
-abbrev pub rows_in : Book → List Row
-rows_in b = map (row_in (bytes_in b)) (listed b.rows)
+abbrev pub rows_in : Inside → List BookRow
+rows_in b = map (stored_at b.arena) b.rows
 
--- the rows of a book that is being made
-abbrev pub rows_made : BookMaker → List Row
-rows_made m = rows_in m.book
+-- whether a slice lies within the first n bytes
+abbrev pub Within : ℕ → Slice → Type 0
+Within n s = s.start + s.len ≤ n
 
--- the rows of an answer book
-abbrev pub rows_held : AnswerBook → List Row
-rows_held a = rows_in a.book
+abbrev pub RowWithin : ℕ → Row Slice → Type 0
+RowWithin n r = Within n r.expression × Within n r.image × IfSome (text_of r.outcome) (Within n)
 
--- the expressions that an answer book has accepted, by number
-abbrev pub accepted_in : AnswerBook → List (List ℕ)
-accepted_in a = map (part_of (bytes_in a.book)) (listed a.accepted)
+-- the slices of the rows lie in the arena, no row has a long text, and no byte of the arena is spare
+pub record Kept (b : Inside) : Type 0 where
+  pub within : All (RowWithin (length b.arena)) b.rows
+  pub short : present (rows_in b) ≡ rows_in b
+  pub filled : rows_bytes (rows_in b) ≡ length b.arena

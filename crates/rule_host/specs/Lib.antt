@@ -1,10 +1,9 @@
-pub mod Answers
 pub mod BookMeaning
 pub mod Books
 pub mod Compiling
-pub mod Given
 pub mod Laws
 pub mod Meaning
+pub mod Outcomes
 pub mod Rows
 pub mod Shortness
 pub mod Stored

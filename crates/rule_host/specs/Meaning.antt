@@ -1,5 +1,8 @@
 -- What the expressions of a rule host mean. Expressions, names, images and texts are lists of bytes.
 use Rattle.std.specs.Prelude.{ℕ, ◌≤◌, Bool, List, length}
+use Rattle.std.specs.Option.{IfSome}
+use Rattle.rule_host.specs.Outcomes.{text_of}
+use Rattle.rule_host.specs.declared.answer.Outcome.{Outcome}
 
 -- whether a host takes an expression; an ill one comes with a failure text
 pub data Judgement : Type 0 where
@@ -7,13 +10,8 @@ pub data Judgement : Type 0 where
   ill : List ℕ → Judgement
 
 -- what an expression gives at an image: true, false, a text, another value, the name that was not declared, or a failure text
-pub data Evaluation : Type 0 where
-  holds : Evaluation
-  fails : Evaluation
-  text : List ℕ → Evaluation
-  other : Evaluation
-  undeclared : List ℕ → Evaluation
-  failure : List ℕ → Evaluation
+abbrev pub Evaluation : Type 0
+Evaluation = Outcome (List ℕ)
 
 -- a text of a host has at most 1,024 bytes
 abbrev pub Short : List ℕ → Type 0
@@ -24,12 +22,7 @@ ShortJudgement well = Unit {0}
 ShortJudgement (ill t) = Short t
 
 abbrev pub ShortEvaluation : Evaluation → Type 0
-ShortEvaluation holds = Unit {0}
-ShortEvaluation fails = Unit {0}
-ShortEvaluation (text t) = Short t
-ShortEvaluation other = Unit {0}
-ShortEvaluation (undeclared t) = Short t
-ShortEvaluation (failure t) = Short t
+ShortEvaluation v = IfSome (text_of v) Short
 
 -- the fixed meaning of a host
 pub record Meaning : Type 0 where

@@ -7,5 +7,4 @@ pub mod answer_book;
 mod book;
 pub mod host;
 pub mod maker;
-pub mod scripted;
-mod stored;
+pub mod row;

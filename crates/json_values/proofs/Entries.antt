@@ -21,8 +21,8 @@ module _ (s : Source → List ℕ) (t : List Entry) (i : ℕ) (h : i < length t)
   long : length (take i t) ≡ i
   long = length-take-le i t (omega arith)
 
-  below : rows_of s (take i t) ≡ take i (rows_of s t)
-  below = sym (ap (λ z. take i (rows_of s z)) split ∙ (ap (λ n. take n (rows_of s (take i t ++ (e ∷ drop (i + 1) t)))) (sym long) ∙ rows_stay s (take i t) (e ∷ drop (i + 1) t)))
+  pub rows_below : rows_of s (take i t) ≡ take i (rows_of s t)
+  rows_below = sym (ap (λ z. take i (rows_of s z)) split ∙ (ap (λ n. take n (rows_of s (take i t ++ (e ∷ drop (i + 1) t)))) (sym long) ∙ rows_stay s (take i t) (e ∷ drop (i + 1) t)))
 
   upto : rows_of s (take (i + 1) t) ≡ take (i + 1) (rows_of s t)
   upto =
@@ -36,7 +36,7 @@ module _ (s : Source → List ℕ) (t : List Entry) (i : ℕ) (h : i < length t)
       let n : length (rows_of s (take i t)) ≡ i = rows_of-length s (take i t) ∙ length-take-le i t (omega arith) in
       let lt : i < i + 1 = omega arith in
       let here : get_or (rows_of s (take (i + 1) t)) i no_row ≡ row_of s (rows_of s (take i t)) x = ap (λ z. get_or (rows_of s z) i no_row) (take_more t i no_entry h) ∙ (ap (λ z. get_or z i no_row) (rows_push s (take i t) x) ∙ get_or_at (rows_of s (take i t)) (row_of s (rows_of s (take i t)) x) [] no_row i n) in
-      sym (get_or-take (i + 1) (rows_of s t) i no_row lt) ∙ (ap (λ z. get_or z i no_row) (sym upto) ∙ (here ∙ ap (λ z. row_of s z x) below))
+      sym (get_or-take (i + 1) (rows_of s t) i no_row lt) ∙ (ap (λ z. get_or z i no_row) (sym upto) ∙ (here ∙ ap (λ z. row_of s z x) rows_below))
 
   pub value_is : value_at s t i ≡ meaning s (take i (rows_of s t)) (get_or t i no_entry).cell
   value_is = ap (λ (r : Row). r.value) row_is
@@ -80,6 +80,20 @@ children_are rows sp k h = ⊎_elim inside outside (cases_lt sp.first k)
         let none : drop sp.first (take k rows) ≡ [] = drop_of_length-le (take k rows) (omega (arith, length-take-le k rows h)) in
         let z : min (sp.first + sp.count) k - min sp.first k ≡ 0 = omega arith in
         ap (take sp.count) none ∙ (take-nil sp.count ∙ sym (ap (λ n. take n (drop (min sp.first k) rows)) z))
+
+-- a child is what its entry means by those below it
+module _ (s : Source → List ℕ) (t : List Entry) (sp : Span) where
+  pub children-length : length (children (rows_of s t) sp) ≡ length (children t sp)
+  children-length = omega (arith, length-take sp.count (drop sp.first (rows_of s t)), length-drop sp.first (rows_of s t), rows_of-length s t, length-take sp.count (drop sp.first t), length-drop sp.first t)
+
+  pub child_is : (i : ℕ) → i < length (children t sp) → get_or (children (rows_of s t) sp) i no_row ≡ row_of s (rows_of s (take (sp.first + i) t)) (get_or (children t sp) i no_entry)
+  child_is i lt =
+      let few : i < sp.count = omega (arith, length-take sp.count (drop sp.first t)) in
+      let inside : sp.first + i < length t = omega (arith, length-take sp.count (drop sp.first t), length-drop sp.first t) in
+      get_or-take sp.count (drop sp.first (rows_of s t)) i no_row few ∙ get_or-drop sp.first (rows_of s t) i no_row
+      ∙ row_is s t (sp.first + i) inside
+      ∙ ap (λ rows. row_of s rows (get_or t (sp.first + i) no_entry)) (sym (rows_below s t (sp.first + i) inside))
+      ∙ ap (row_of s (rows_of s (take (sp.first + i) t))) (sym (get_or-take sp.count (drop sp.first t) i no_entry few ∙ get_or-drop sp.first t i no_entry))
 
 -- ---- keys that ascend
 

@@ -1,5 +1,5 @@
 // What stands in a table, over the stores that hold its texts.
-ghost use Rattle.std.specs.Prelude.{◌≡◌};
+ghost use Rattle.std.specs.Prelude.{◌≡◌, take};
 ghost use Rattle.std.specs.List.{slice_get};
 ghost use Rattle.json_values.specs.Meaning.{Finds, part_of};
 ghost use Rattle.json_values.specs.Texts.{texts_of};
@@ -28,6 +28,15 @@ impl<'a> View<'a> {
         ensures { result ≡ slice_get self.entry.entries.now k }
     {
         self.entries.get(k).copied()
+    }
+
+    // What stands below the entry with the number k, or all where there is none: its children are there.
+    pub fn below(self, k: usize) -> View<'a>
+        ensures stores { result.stores ≡ self.entry.stores }
+        ensures entries { result.entries.now ≡ take k self.entry.entries.now }
+    {
+        let entries = &self.entries[..k.min(self.entries.len())];
+        View { entries, ..self }
     }
 
     // The number of the member of `span` that has the key, by halves: members stand in ascending order of their keys.

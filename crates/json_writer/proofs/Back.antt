@@ -1,17 +1,18 @@
 -- What is written follows the grammar, production by production.
-use Rattle.std.proofs.Common.{◌≡◌, ℕ, suc, ◌+◌, ◌-◌, ◌*◌, ◌/◌, ◌%◌, ◌^◌, ◌<◌, ◌≤◌, Bool, true, false, cond, not, ◌&&◌, ◌||◌, eqb, ltb, leb, List, [], ◌∷◌, ◌++◌, ℤ, pos, negsuc, decimal, sym, refl, ap, ◌∙◌, subst, ⊎_elim, append_assoc, append-nil, arith}
+use Rattle.std.proofs.Common.{◌≡◌, ℕ, suc, ◌+◌, ◌-◌, ◌*◌, ◌/◌, ◌%◌, ◌^◌, ◌<◌, ◌≤◌, Bool, true, false, cond, not, ◌&&◌, ◌||◌, eqb, ltb, leb, List, [], ◌∷◌, ◌++◌, ℤ, pos, negsuc, decimal, Some, None, slice_index, sym, refl, ap, ◌∙◌, subst, append_assoc, append-nil, arith}
 use lib.Utf8.{encode}
 use Rattle.std.specs.List.{flat_map}
 use Rattle.std.specs.Char.{is_ascii_digit}
 use Rattle.std.specs.Fmt.{signed_decimal}
 use Rattle.std.proofs.lemmas.Str.Ascii.{encode_ascii}
 use Rattle.std.proofs.lemmas.Fmt.{decimal_by_steps}
-use Rattle.std.proofs.lemmas.Bool.{and_from, and_left, and_parts, cases_lt, eqb-true, false≢true, le-leb, leb-true, lt-leb, lt-ltb, le-ltb, ltb-true, ne_eqb, not-true, or_from, or_parts, or_right}
+use Rattle.std.proofs.lemmas.Bool.{agree_below_at, and_from, and_left, and_parts, eqb-true, false≢true, le-leb, leb-true, lt-leb, le-ltb, ltb-true, ne_eqb, not-true, or_from, or_parts}
+use Rattle.hex.specs.Hex.{encode_with, lower_digits}
 use Rattle.json_values.specs.Value.{Value, Items, Members, null, bool, int, uint, text, list, map, no_item, item, no_member, member}
 use Rattle.json_scanner.specs.Grammar.{Blank, Character, Chars, CodeUnit, Elements, Entries, Name, Numeral, Raw, Text, Tree, Trees, nil, snoc, plain, simple}
 use Rattle.json_scanner.specs.Grammar as g
 use Rattle.json_writer.specs.Back.{Letter, Letters, Small, Writable, WritableItems, WritableMembers, WritesJson, marked, members_from, number_tree, tree_of, trees_from}
-use Rattle.json_writer.specs.Compact.{compact, control_escape, escaped, hex_digit, items_text, members_text, more_items, more_members, quoted, short_letter, unit_escape}
+use Rattle.json_writer.specs.Compact.{compact, control_escape, escaped, items_text, members_text, more_items, more_members, quoted, short_letter, unit_escape}
 
 -- ---- numbers
 
@@ -44,45 +45,29 @@ kept b m =
 
 -- the digits of a code unit
 
-hex_small : (n : ℕ) → n < 10 → hex_digit n ≡ 48 + n
-hex_small n h = rw (lt-ltb n 10 h)
+-- the n-th digit is one, and has the value n
+is_digit : ℕ → Bool
+is_digit n = g.hex (slice_index lower_digits n) && eqb (g.hexed (slice_index lower_digits n)) n
 
-hex_large : (n : ℕ) → 10 ≤ n → hex_digit n ≡ 87 + n
-hex_large n h = rw (le-ltb n 10 h)
-
-small_hex : (n : ℕ) → n < 10 → (g.hex (48 + n) ≡ true) × (g.hexed (48 + n) ≡ n)
-small_hex n h =
-    let d = digit_is n h in
-    let l : leb (48 + n) 57 ≡ true = le-leb (48 + n) 57 (omega arith) in
-    (rw d, rw l (omega arith))
-
-large_hex : (n : ℕ) → 10 ≤ n → n < 16 → (g.hex (87 + n) ≡ true) × (g.hexed (87 + n) ≡ n)
-large_hex n h k =
-    let a : leb (87 + n) 57 ≡ false = lt-leb (87 + n) 57 (omega arith) in
-    let b : leb (87 + n) 70 ≡ false = lt-leb (87 + n) 70 (omega arith) in
-    let c : leb 97 (87 + n) ≡ true = le-leb 97 (87 + n) (omega arith) in
-    let d : leb (87 + n) 102 ≡ true = le-leb (87 + n) 102 (omega arith) in
-    (or_right (is_ascii_digit (87 + n)) _ (or_right (leb 65 (87 + n) && leb (87 + n) 70) _ (and_from (leb 97 (87 + n)) (leb (87 + n) 102) c d)), rw (a, b) (omega arith))
-
-hex_back : (n : ℕ) → n < 16 → (g.hex (hex_digit n) ≡ true) × (g.hexed (hex_digit n) ≡ n)
+hex_back : (n : ℕ) → n < 16 → (g.hex (slice_index lower_digits n) ≡ true) × (g.hexed (slice_index lower_digits n) ≡ n)
+unfolding is_digit
 hex_back n h =
-    ⊎_elim
-    (λ (lt : n < 10). subst (λ d. (g.hex d ≡ true) × (g.hexed d ≡ n)) (sym (hex_small n lt)) (small_hex n lt))
-    (λ (le : 10 ≤ n). subst (λ d. (g.hex d ≡ true) × (g.hexed d ≡ n)) (sym (hex_large n le)) (large_hex n le h))
-    (cases_lt n 10)
+    let p = and_parts (g.hex (slice_index lower_digits n)) _ (agree_below_at is_digit (λ _. true) 16 n refl h) in
+    (p.0, eqb-true _ n p.1)
 
 unit_is : (b : ℕ) → b < 32 → g.unit 0 0 (b / 16) (b % 16) ≡ b
 unit_is b h = omega arith
 
 unit_char : (b : ℕ) → b < 32 → Character (b ∷ []) (unit_escape b)
+unfolding encode_with
 unit_char b h =
     let hi = hex_back (b / 16) (omega arith) in
     let lo = hex_back (b % 16) (omega arith) in
-    let u : g.unit 0 0 (g.hexed (hex_digit (b / 16))) (g.hexed (hex_digit (b % 16))) ≡ b = ap (λ x. g.unit 0 0 x (g.hexed (hex_digit (b % 16)))) hi.1 ∙ (ap (λ x. g.unit 0 0 (b / 16) x) lo.1 ∙ unit_is b h) in
-    let low : g.surrogate (g.unit 0 0 (g.hexed (hex_digit (b / 16))) (g.hexed (hex_digit (b % 16)))) ≡ false = ap g.surrogate u ∙ and_left (leb 55296 b) (ltb b 57344) (lt-leb 55296 b (omega arith)) in
-    subst (λ t. Character t (unit_escape b)) (ap encode u ∙ encode_ascii b (omega arith)) (Character.single (CodeUnit.digits 48 48 (hex_digit (b / 16)) (hex_digit (b % 16)) refl refl hi.0 lo.0) low)
+    let u : g.unit 0 0 (g.hexed (slice_index lower_digits (b / 16))) (g.hexed (slice_index lower_digits (b % 16))) ≡ b = ap (λ x. g.unit 0 0 x (g.hexed (slice_index lower_digits (b % 16)))) hi.1 ∙ (ap (λ x. g.unit 0 0 (b / 16) x) lo.1 ∙ unit_is b h) in
+    let low : g.surrogate (g.unit 0 0 (g.hexed (slice_index lower_digits (b / 16))) (g.hexed (slice_index lower_digits (b % 16)))) ≡ false = ap g.surrogate u ∙ and_left (leb 55296 b) (ltb b 57344) (lt-leb 55296 b (omega arith)) in
+    subst (λ t. Character t (unit_escape b)) (ap encode u ∙ encode_ascii b (omega arith)) (Character.single (CodeUnit.digits 48 48 (slice_index lower_digits (b / 16)) (slice_index lower_digits (b % 16)) refl refl hi.0 lo.0) low)
 
-by_control : (b : ℕ) → b < 32 → (p q r s t : Bool) → (p ≡ true → b ≡ 8) → (q ≡ true → b ≡ 9) → (r ≡ true → b ≡ 10) → (s ≡ true → b ≡ 12) → (t ≡ true → b ≡ 13) → Character (b ∷ []) (control_escape b (cond p 98 (cond q 116 (cond r 110 (cond s 102 (cond t 114 0))))))
+by_control : (b : ℕ) → b < 32 → (p q r s t : Bool) → (p ≡ true → b ≡ 8) → (q ≡ true → b ≡ 9) → (r ≡ true → b ≡ 10) → (s ≡ true → b ≡ 12) → (t ≡ true → b ≡ 13) → Character (b ∷ []) (control_escape b (cond p (Some 98) (cond q (Some 116) (cond r (Some 110) (cond s (Some 102) (cond t (Some 114) None))))))
 by_control b h true q r s t e f i j k = subst (λ x. Character (x ∷ []) (92 ∷ 98 ∷ [])) (sym (e refl)) (Character.escape 98 8 refl)
 by_control b h false true r s t e f i j k = subst (λ x. Character (x ∷ []) (92 ∷ 116 ∷ [])) (sym (f refl)) (Character.escape 116 9 refl)
 by_control b h false false true s t e f i j k = subst (λ x. Character (x ∷ []) (92 ∷ 110 ∷ [])) (sym (i refl)) (Character.escape 110 10 refl)

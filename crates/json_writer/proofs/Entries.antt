@@ -1,65 +1,58 @@
--- What an entry of a table means, by those below it.
-use Rattle.std.proofs.Common.{◌≡◌, ℕ, zero, suc, ◌+◌, ◌<◌, ◌≤◌, min, Bool, true, false, List, [], ◌∷◌, ◌++◌, length, get_or, take, ℤ, codes, decimal, sym, refl, ap, ◌∙◌, arith}
-use Rattle.std.specs.Fmt.{signed_decimal}
-use Rattle.json_values.specs.Value.{list, map}
-use Rattle.json_values.specs.Meaning.{Row, no_row, no_entry, items_of, meaning, members_of, part_of, rows_of, value_at}
-use Rattle.json_values.specs.declared.parts.Part.{Part}
-use Rattle.json_values.specs.declared.parts.Source.{Source}
-use Rattle.json_values.specs.declared.table.Cell.{Cell}
-use Rattle.json_values.specs.declared.table.Cell.TheVariants as cell
+-- What a child of a container adds to the text.
+use Rattle.std.proofs.Common.{◌≡◌, ℕ, ◌+◌, ◌<◌, ◌≤◌, List, ◌++◌, length, get_or, take, codes, Some, None, unwrap_or, inl, inr, sym, ap, ◌∙◌, arith}
+use Rattle.std.specs.List.{slice_get}
+use Rattle.std.proofs.lemmas.List.{take_all}
+use Rattle.std.proofs.lemmas.Option.{get_or_from_slice_get, slice_get_cases, slice_get_past, slice_get_within, unwrap_or-slice_get}
+use Rattle.json_values.specs.Meaning.{Row, no_entry, no_row, children, items_of, members_of, part_of, meaning, row_of, rows_of}
+use Rattle.json_values.specs.Texts.{meant, rows_in, texts_of, viewed}
 use Rattle.json_values.specs.declared.table.Entry.{Entry}
 use Rattle.json_values.specs.declared.table.Span.{Span}
-use Rattle.json_values.proofs.Entries.{children_are, row_is, value_is}
+use Rattle.json_values.specs.declared.view.View.{View}
+use Rattle.json_values.proofs.Entries.{child_is, children-length, rows_below, value_is}
 use Rattle.json_values.proofs.Rows.{rows_of-length}
-use Rattle.json_writer.specs.Compact.{compact, literal, quoted}
-use Rattle.json_writer.specs.Rows.{rows_between, run_text}
-use Rattle.json_writer.proofs.Runs.{list_text, map_text}
+use Rattle.json_writer.specs.Compact.{comma_at, compact, items_text, members_text, named}
+use Rattle.json_writer.proofs.Runs.{items_more, members_more}
 
--- ---- the text of an entry, by its cell
+-- the text of the entry k, by what stands at k
+module _ (view : View) (k : ℕ) where
+  pub entry_text : (under : View) (e : Entry) → slice_get view.entries.now k ≡ Some e → under.stores ≡ view.stores → under.entries.now ≡ take k view.entries.now → compact (meant under e.cell) ≡ compact (viewed view k)
+  entry_text under e at stores below =
+      let lt = slice_get_within view.entries.now k e at in
+      let texts = texts_of view.stores in
+      ap (λ st. compact (meaning (texts_of st) (rows_of (texts_of st) under.entries.now) e.cell)) stores
+      ∙ ap (λ es. compact (meaning texts (rows_of texts es) e.cell)) below
+      ∙ ap (λ rows. compact (meaning texts rows e.cell)) (rows_below texts view.entries.now k lt)
+      ∙ ap (λ (x : Entry). compact (meaning texts (take k (rows_in view)) x.cell)) (sym (get_or_from_slice_get view.entries.now k e no_entry at))
+      ∙ sym (ap compact (value_is texts view.entries.now k lt))
 
-module _ (s : Source → List ℕ) (t : List Entry) (k : ℕ) (h : k < length t) where
-  pub text_by : (x : Cell) → (get_or t k no_entry).cell ≡ x → compact (meaning s (take k (rows_of s t)) x) ≡ compact (value_at s t k)
-  text_by x e = sym (ap compact (value_is s t k h ∙ ap (meaning s (take k (rows_of s t))) e))
-
-  rows_long : k ≤ length (rows_of s t)
-  rows_long = omega (arith, rows_of-length s t)
-
-  pub list_by : (sp : Span) → (get_or t k no_entry).cell ≡ cell.List sp → 91 ∷ (run_text false (rows_between (rows_of s t) (min sp.first k) (min (sp.first + sp.count) k)) ++ 93 ∷ []) ≡ compact (value_at s t k)
-  list_by sp e =
-      sym (ap (λ rs. compact (list (items_of rs))) (children_are (rows_of s t) sp k rows_long) ∙ list_text (rows_between (rows_of s t) (min sp.first k) (min (sp.first + sp.count) k))) ∙ text_by (cell.List sp) e
-
-  pub map_by : (sp : Span) → (get_or t k no_entry).cell ≡ cell.Map sp → 123 ∷ (run_text true (rows_between (rows_of s t) (min sp.first k) (min (sp.first + sp.count) k)) ++ 125 ∷ []) ≡ compact (value_at s t k)
-  map_by sp e =
-      sym (ap (λ rs. compact (map (members_of rs))) (children_are (rows_of s t) sp k rows_long) ∙ map_text (rows_between (rows_of s t) (min sp.first k) (min (sp.first + sp.count) k))) ∙ text_by (cell.Map sp) e
-
-  pub null_by : (get_or t k no_entry).cell ≡ cell.Null → codes "null" ≡ compact (value_at s t k)
+  pub none_text : slice_get view.entries.now k ≡ None → codes "null" ≡ compact (viewed view k)
   unfolding compact
-  null_by e = text_by cell.Null e
+  none_text none =
+      let past : length view.entries.now ≤ k = elim (slice_get_cases view.entries.now k).1 [ inl here ↦ grind (arith, here.2, none) | inr over ↦ over.0 ] in
+      let over : slice_get (rows_in view) k ≡ None = slice_get_past (rows_in view) k (omega (arith, rows_of-length (texts_of view.stores) view.entries.now)) in
+      ap (λ (r : Row). compact r.value) (sym (ap (λ o. unwrap_or o no_row) over) ∙ unwrap_or-slice_get (rows_in view) k no_row)
 
-  pub bool_by : (b : Bool) → (get_or t k no_entry).cell ≡ cell.Bool b → literal b ≡ compact (value_at s t k)
-  unfolding compact
-  bool_by b e = text_by (cell.Bool b) e
+-- the i-th child, over the view of what stands below it
+module _ (view under : View) (sp : Span) (i : ℕ) (members : List Entry) (child : Entry) (o : List ℕ) (is : members ≡ children view.entries.now sp) (lt : i < length members) (stores : under.stores ≡ view.stores) (below : under.entries.now ≡ take (sp.first + i) view.entries.now) (at : child ≡ get_or members i no_entry) where
+  inside : i < length (children (rows_in view) sp)
+  inside = omega (arith, ap length is, children-length (texts_of view.stores) view.entries.now sp)
 
-  pub int_by : (z : ℤ) → (get_or t k no_entry).cell ≡ cell.Int z → signed_decimal z ≡ compact (value_at s t k)
-  unfolding compact
-  int_by z e = text_by (cell.Int z) e
+  row : get_or (children (rows_in view) sp) i no_row ≡ row_of (texts_of under.stores) (rows_in under) child
+  row =
+      child_is (texts_of view.stores) view.entries.now sp i (omega (arith, ap length is))
+      ∙ ap (λ st. row_of (texts_of st) (rows_of (texts_of st) (take (sp.first + i) view.entries.now)) (get_or (children view.entries.now sp) i no_entry)) (sym stores)
+      ∙ ap (λ es. row_of (texts_of under.stores) (rows_of (texts_of under.stores) es) (get_or (children view.entries.now sp) i no_entry)) (sym below)
+      ∙ ap (row_of (texts_of under.stores) (rows_in under)) (sym (at ∙ ap (λ m. get_or m i no_entry) is))
 
-  pub uint_by : (n : ℕ) → (get_or t k no_entry).cell ≡ cell.Uint n → decimal n ≡ compact (value_at s t k)
-  unfolding compact
-  uint_by n e = text_by (cell.Uint n) e
+  pub items_step : {a b c : List ℕ} → a ≡ o ++ items_text (items_of (take i (children (rows_in view) sp))) → b ≡ a ++ comma_at i → c ≡ b ++ compact (meant under child.cell) → c ≡ o ++ items_text (items_of (take (i + 1) (children (rows_in view) sp)))
+  items_step {b = b} p q r = items_more o (children (rows_in view) sp) i inside p q (r ∙ ap (λ (x : Row). b ++ compact x.value) (sym row))
 
-  pub quoted_by : (p : Part) → (get_or t k no_entry).cell ≡ cell.Text p → quoted (part_of s p) ≡ compact (value_at s t k)
-  unfolding compact
-  quoted_by p e = text_by (cell.Text p) e
+  pub members_step : {a b c d : List ℕ} → a ≡ o ++ members_text (members_of (take i (children (rows_in view) sp))) → b ≡ a ++ comma_at i → c ≡ b ++ named (part_of (texts_of view.stores) child.key) → d ≡ c ++ compact (meant under child.cell) → d ≡ o ++ members_text (members_of (take (i + 1) (children (rows_in view) sp)))
+  members_step {b = b} {c = c} p q r s =
+      members_more o (children (rows_in view) sp) i inside p q
+      (r ∙ ap (λ st. b ++ named (part_of (texts_of st) child.key)) (sym stores) ∙ ap (λ (x : Row). b ++ named x.key) (sym row))
+      (s ∙ ap (λ (x : Row). c ++ compact x.value) (sym row))
 
-  pub key_by : (get_or (rows_of s t) k no_row).key ≡ part_of s (get_or t k no_entry).key
-  key_by = ap (λ (r : Row). r.key) (row_is s t k h)
-
-pub none_by : (s : Source → List ℕ) (t : List Entry) (k : ℕ) → length t ≤ k → codes "null" ≡ compact (value_at s t k)
-unfolding compact
-none_by s t k h = sym (ap (λ (r : Row). compact r.value) (get_d_past (rows_of s t) k (omega (arith, rows_of-length s t))))
-  where
-    get_d_past : (xs : List Row) (i : ℕ) → length xs ≤ i → get_or xs i no_row ≡ no_row
-    get_d_past [] i h = refl
-    get_d_past (x ∷ xs) zero h = absurd (omega arith)
-    get_d_past (x ∷ xs) (suc i) h = get_d_past xs i (omega arith)
+-- no more children
+pub all_children : (view : View) (sp : Span) (i : ℕ) (members : List Entry) → members ≡ children view.entries.now sp → length members ≤ i → take i (children (rows_in view) sp) ≡ children (rows_in view) sp
+all_children view sp i members is le = take_all i (children (rows_in view) sp) (omega (arith, ap length is, children-length (texts_of view.stores) view.entries.now sp))

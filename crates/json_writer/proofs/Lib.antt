@@ -1,3 +1,3 @@
 pub mod Back
-pub mod Entries
 pub mod Runs
+pub mod Entries

@@ -1,23 +1,21 @@
 -- A JSON value as compact text: members in order, no spaces, shortest escapes.
-use Rattle.std.specs.Prelude.{ℕ, ◌+◌, ◌/◌, ◌%◌, Bool, true, false, cond, List, [], ◌∷◌, ◌++◌, codes, decimal, ◌==◌, nat_lt}
+use Rattle.std.specs.Prelude.{ℕ, zero, suc, Bool, true, false, cond, List, [], ◌∷◌, ◌++◌, codes, decimal, ◌==◌, nat_lt, Option, Some, None}
 use Rattle.std.specs.List.{flat_map}
 use Rattle.std.specs.Fmt.{signed_decimal}
+use Rattle.hex.specs.Hex.{encode_lower}
 use Rattle.json_values.specs.Value.{Value, Items, Members, null, bool, int, uint, text, list, map, no_item, item, no_member, member}
 
--- the sign of a hexadecimal digit, in lower case
-abbrev pub hex_digit : ℕ → ℕ
-hex_digit n = cond (nat_lt n 10) (48 + n) (87 + n)
-
--- a control character that has no short escape
+-- a control character that has no short escape: its number in hexadecimal digits
 abbrev pub unit_escape : ℕ → List ℕ
-unit_escape b = 92 ∷ 117 ∷ 48 ∷ 48 ∷ hex_digit (b / 16) ∷ hex_digit (b % 16) ∷ []
+unit_escape b = codes "\\u00" ++ encode_lower (b ∷ [])
 
--- the letter of a control character's short escape, or 0 where it has none
-abbrev pub short_letter : ℕ → ℕ
-short_letter b = cond (b == 8) 98 (cond (b == 9) 116 (cond (b == 10) 110 (cond (b == 12) 102 (cond (b == 13) 114 0))))
+-- the letter of a control character's short escape
+abbrev pub short_letter : ℕ → Option ℕ
+short_letter b = cond (b == 8) (Some 98) (cond (b == 9) (Some 116) (cond (b == 10) (Some 110) (cond (b == 12) (Some 102) (cond (b == 13) (Some 114) None))))
 
-abbrev pub control_escape : ℕ → ℕ → List ℕ
-control_escape b letter = cond (letter == 0) (unit_escape b) (92 ∷ letter ∷ [])
+abbrev pub control_escape : ℕ → Option ℕ → List ℕ
+control_escape b (Some letter) = 92 ∷ letter ∷ []
+control_escape b None = unit_escape b
 
 -- a byte of a text, as a string writes it
 abbrev pub escaped : ℕ → List ℕ
@@ -28,6 +26,15 @@ escaped b =
 -- a text between its quotes
 unfoldable pub quoted : List ℕ → List ℕ
 quoted s = 34 ∷ (flat_map escaped s ++ 34 ∷ [])
+
+-- a key before its value
+abbrev pub named : List ℕ → List ℕ
+named k = quoted k ++ 58 ∷ []
+
+-- the comma before all but the first of a run
+abbrev pub comma_at : ℕ → List ℕ
+comma_at zero = []
+comma_at (suc i) = 44 ∷ []
 
 abbrev pub literal : Bool → List ℕ
 literal true = codes "true"
@@ -55,8 +62,8 @@ unfoldable mutual
   -- members with commas between them
   pub members_text : Members → List ℕ
   members_text no_member = []
-  members_text (member k v ms) = (quoted k ++ 58 ∷ []) ++ (compact v ++ more_members ms)
+  members_text (member k v ms) = named k ++ (compact v ++ more_members ms)
 
   pub more_members : Members → List ℕ
   more_members no_member = []
-  more_members (member k v ms) = 44 ∷ ((quoted k ++ 58 ∷ []) ++ (compact v ++ more_members ms))
+  more_members (member k v ms) = 44 ∷ (named k ++ (compact v ++ more_members ms))

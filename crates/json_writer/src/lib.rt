@@ -5,7 +5,7 @@ mod strings;
 mod values;
 
 pub use strings::push_quoted;
-pub use values::{View, push_compact, writing_stands};
+pub use values::{push_compact, writing_stands};
 
 #[cfg(test)]
 mod tests;

@@ -1,27 +1,20 @@
 // Texts as JSON strings.
 ghost use Rattle.std.specs.Prelude.{◌≡◌, ◌<◌, ◌++◌, OnOk};
-ghost use Rattle.json_writer.specs.Compact.{control_escape, escaped, hex_digit, quoted, short_letter};
+ghost use Rattle.json_writer.specs.Compact.{control_escape, escaped, quoted, short_letter};
 
 use std::alloc::AllocError;
 
-fn digit(n: u8) -> u8
-    requires { n < 16 }
-    ensures { result ≡ hex_digit n }
-{
-    if n < 10 { b'0' + n } else { b'a' - 10 + n }
-}
-
-// The letter of a control character's short escape, or 0 where it has none.
-fn letter_of(b: u8) -> u8
+// The letter of a control character's short escape.
+fn letter_of(b: u8) -> Option<u8>
     ensures { result ≡ short_letter b }
 {
     match b {
-        8 => b'b',
-        9 => b't',
-        10 => b'n',
-        12 => b'f',
-        13 => b'r',
-        _ => 0,
+        8 => Some(b'b'),
+        9 => Some(b't'),
+        10 => Some(b'n'),
+        12 => Some(b'f'),
+        13 => Some(b'r'),
+        _ => None,
     }
 }
 
@@ -29,31 +22,28 @@ fn push_control(b: u8, out: &mut Vec<u8>) -> Result<(), AllocError>
     requires { b < 32 }
     ensures { OnOk result (out.new.items ≡ out.old.items ++ control_escape b (short_letter b)) }
 {
-    let letter = letter_of(b);
-    if letter == 0 {
-        out.extend_from_slice(&[b'\\', b'u', b'0', b'0', digit(b / 16), digit(b % 16)])?;
-    } else {
-        out.extend_from_slice(&[b'\\', letter])?;
+    match letter_of(b) {
+        Some(letter) => out.extend_from_slice(&[b'\\', letter]),
+        None => {
+            let mut escape = *b"\\u00__";
+            let _ = hex::encode_to_slice([b], &mut escape[4..]);
+            out.extend_from_slice(&escape)
+        }
     }
-    Ok(())
 }
 
 fn push_escaped(b: u8, out: &mut Vec<u8>) -> Result<(), AllocError>
     ensures { OnOk result (out.new.items ≡ out.old.items ++ escaped b) }
 {
-    if b < 32 {
-        push_control(b, out)?;
-    } else if b == b'"' {
-        out.extend_from_slice(&[b'\\', b'"'])?;
-    } else if b == b'\\' {
-        out.extend_from_slice(&[b'\\', b'\\'])?;
-    } else {
-        out.push(b)?;
+    match b {
+        0..32 => push_control(b, out),
+        b'"' | b'\\' => out.extend_from_slice(&[b'\\', b]),
+        _ => Ok(out.push(b)?),
     }
-    Ok(())
 }
 
 // Appends a text as a string.
+#[tactic(auto, unfolding(crate::specs::Compact::quoted))]
 pub fn push_quoted(text: &[u8], out: &mut Vec<u8>) -> Result<(), AllocError>
     ensures { OnOk result (out.new.items ≡ out.old.items ++ quoted text.now) }
 {
@@ -61,6 +51,5 @@ pub fn push_quoted(text: &[u8], out: &mut Vec<u8>) -> Result<(), AllocError>
     for b in text {
         push_escaped(*b, out)?;
     }
-    out.push(b'"')?;
-    Ok(())
+    Ok(out.push(b'"')?)
 }

@@ -1,8 +1,8 @@
-use super::{View, push_compact};
-use json_values::add_entry;
+use super::push_compact;
 use json_values::parts::{Part, Source};
 use json_values::store::Store;
 use json_values::table::{Cell, Entry, Span, Table};
+use json_values::{Stores, View, add_entry};
 use std::test::Fail;
 
 fn part(start: usize, len: usize) -> Part {
@@ -58,14 +58,17 @@ fn compact_text(rt: HostRuntime) -> Result<(), Fail> {
         )
         .is_ok()
     );
-    let view = View {
+    let stores = Stores {
         schema: &schema,
         record: &record,
         older: &older,
+    };
+    let view = View {
+        stores,
         entries: table.as_slice(),
     };
     let mut text = Vec::new(heap);
-    push_compact(heap, view, 9, &mut text)?;
+    push_compact(view, 9, &mut text)?;
     assert_eq!(rt;
         text.as_slice(),
         b"{\"\":[-9223372036854775808,18446744073709551615,true,false,null,[],{}],\"k\":\"\\\"\\\\\\b\\f\\n\\r\\t\\u001f/\xc3\xa4\"}".as_slice()

@@ -1,153 +1,110 @@
 // Values of a table as compact text.
-ghost use Rattle.std.specs.Prelude.{◌≡◌, ◌+◌, ◌-◌, ◌<◌, ◌≤◌, min, ◌++◌, length, decimal, MatchOption, OnOk, slice_index_or};
-ghost use Rattle.json_values.specs.Meaning.{no_entry, part_of, rows_of, value_at};
-ghost use Rattle.json_values.specs.Stored.{texts_of};
+ghost use Rattle.std.specs.Prelude.{◌≡◌, ◌++◌, OnOk};
+ghost use Rattle.json_values.specs.Meaning.{children, items_of, members_of};
+ghost use Rattle.json_values.specs.Texts.{meant, rows_in, viewed};
 ghost use Rattle.json_writer.specs.Back.{WritesJson};
-ghost use Rattle.json_writer.specs.Compact.{compact, literal};
-ghost use Rattle.json_writer.specs.Rows.{comma_at, key_text, rows_between, run_text};
-ghost use Rattle.std.specs.Fmt.{signed_decimal};
+ghost use Rattle.json_writer.specs.Compact.{compact, comma_at, items_text, literal, members_text, named};
 
 use super::strings::push_quoted;
-use json_values::held_text;
-use json_values::parts::Part;
-use json_values::store::Store;
-use json_values::table::{Cell, Entry, Span};
-use std::alloc::{AllocError, Global};
-
-// The entries of a table, and the stores that hold their texts.
-#[derive(Clone, Copy)]
-pub struct View<'a> {
-    pub schema: &'a Store,
-    pub record: &'a Store,
-    pub older: &'a Store,
-    pub entries: &'a [Entry],
-}
+use itoa::{Buffer, Integer};
+use json_values::View;
+use json_values::table::{Cell, Span};
+use std::alloc::AllocError;
 
 fn push_literal(b: bool, out: &mut Vec<u8>) -> Result<(), AllocError>
     ensures { OnOk result (out.new.items ≡ out.old.items ++ literal b) }
 {
-    if b {
-        out.extend_from_slice(b"true")?;
-    } else {
-        out.extend_from_slice(b"false")?;
-    }
-    Ok(())
+    let word = if b { "true" } else { "false" };
+    out.extend_from_slice(word.as_bytes())
 }
 
-fn push_int(heap: Global, n: i64, out: &mut Vec<u8>) -> Result<(), AllocError>
-    ensures { OnOk result (out.new.items ≡ out.old.items ++ signed_decimal n) }
+fn push_number<I: Integer>(n: I, out: &mut Vec<u8>) -> Result<(), AllocError>
+    ensures { OnOk result (out.new.items ≡ out.old.items ++ I.text n) }
 {
-    let digits = format!(in heap; "{n}")?;
-    out.extend_from_slice(digits.as_bytes())?;
-    Ok(())
-}
-
-fn push_uint(heap: Global, n: u64, out: &mut Vec<u8>) -> Result<(), AllocError>
-    ensures { OnOk result (out.new.items ≡ out.old.items ++ decimal n) }
-{
-    let digits = format!(in heap; "{n}")?;
-    out.extend_from_slice(digits.as_bytes())?;
-    Ok(())
+    out.extend_from_slice(Buffer::new().format(n).as_bytes())
 }
 
 // The comma before all but the first of a run.
-fn push_comma(first: usize, at: usize, out: &mut Vec<u8>) -> Result<(), AllocError>
-    ensures { OnOk result (out.new.items ≡ out.old.items ++ comma_at first at) }
+fn push_comma(i: usize, out: &mut Vec<u8>) -> Result<(), AllocError>
+    ensures { OnOk result (out.new.items ≡ out.old.items ++ comma_at i) }
 {
-    if first < at {
+    if 0 < i {
         out.push(b',')?;
     }
     Ok(())
 }
 
-impl<'a> View<'a> {
-    fn text(self, part: Part) -> &'a [u8]
-        ensures { result.now ≡ part_of (texts_of self.entry.schema.now self.entry.«record».now self.entry.older.now) part }
-    {
-        held_text(self.schema, self.record, self.older, part)
-    }
-}
-
-// The key of a member, and nothing of an item.
-fn push_key(view: View<'_>, key: Part, keyed: bool, out: &mut Vec<u8>) -> Result<(), AllocError>
-    ensures { OnOk result (out.new.items ≡ out.old.items ++ key_text keyed (part_of (texts_of view.entry.schema.now view.entry.«record».now view.entry.older.now) key)) }
+// The key of a member.
+fn push_key(key: &[u8], out: &mut Vec<u8>) -> Result<(), AllocError>
+    ensures { OnOk result (out.new.items ≡ out.old.items ++ named key.now) }
 {
-    if keyed {
-        push_quoted(view.text(key), out)?;
-        out.push(b':')?;
-    }
-    Ok(())
-}
-
-// What the entry with the number k holds.
-fn cell_at(entries: &[Entry], k: usize) -> Option<Cell>
-    ensures { MatchOption result (length entries.now ≤ k) (λ x. (k < length entries.now) × ((slice_index_or entries.now k no_entry).cell ≡ x)) }
-{
-    if k < entries.len() {
-        Some(entries[k].cell)
-    } else {
-        None
-    }
+    push_quoted(key, out)?;
+    Ok(out.push(b':')?)
 }
 
 // What is written is JSON.
+#[tactic(auto, using(crate::proofs::Back::writes_json))]
 pub fn writing_stands()
     ensures { WritesJson }
 {}
 
 // Appends the value with the number k. The nesting of the value bounds the recursion.
-#[cycle(push_children_push_compact)]
-pub fn push_compact(
-    heap: Global,
-    view: View<'_>,
-    k: usize,
-    out: &mut Vec<u8>,
-) -> Result<(), AllocError>
-    ensures { OnOk result (out.new.items ≡ out.old.items ++ compact (value_at (texts_of view.entry.schema.now view.entry.«record».now view.entry.older.now) view.entry.entries.now k)) }
+#[tactic(auto, using(crate::proofs::Entries::none_text))]
+pub fn push_compact(view: View<'_>, k: usize, out: &mut Vec<u8>) -> Result<(), AllocError>
+    ensures { OnOk result (out.new.items ≡ out.old.items ++ compact (viewed view.entry k)) }
 {
-    let Some(cell) = cell_at(view.entries, k) else {
-        out.extend_from_slice(b"null")?;
-        return Ok(());
-    };
+    match view.entry(k) {
+        Some(entry) => push_cell(view.below(k), entry.cell, out),
+        None => out.extend_from_slice(b"null"),
+    }
+}
+
+// What a cell holds. Its children are among the entries of the view.
+#[cycle(push_cell)]
+#[tactic(auto, unfolding(crate::specs::Compact::compact))]
+fn push_cell(view: View<'_>, cell: Cell, out: &mut Vec<u8>) -> Result<(), AllocError>
+    ensures { OnOk result (out.new.items ≡ out.old.items ++ compact (meant view.entry cell)) }
+{
     match cell {
-        Cell::Null => out.extend_from_slice(b"null")?,
-        Cell::Bool(b) => push_literal(b, out)?,
-        Cell::Int(n) => push_int(heap, n, out)?,
-        Cell::Uint(n) => push_uint(heap, n, out)?,
-        Cell::Text(part) => push_quoted(view.text(part), out)?,
+        Cell::Null => out.extend_from_slice(b"null"),
+        Cell::Bool(b) => push_literal(b, out),
+        Cell::Int(n) => push_number(n, out),
+        Cell::Uint(n) => push_number(n, out),
+        Cell::Text(part) => push_quoted(view.text(part), out),
         Cell::List(span) => {
             out.push(b'[')?;
-            push_children(heap, view, span, k, false, out)?;
-            out.push(b']')?;
+            push_items(view, span, out)?;
+            Ok(out.push(b']')?)
         }
         Cell::Map(span) => {
             out.push(b'{')?;
-            push_children(heap, view, span, k, true, out)?;
-            out.push(b'}')?;
+            push_members(view, span, out)?;
+            Ok(out.push(b'}')?)
         }
+    }
+}
+
+#[cycle(push_cell)]
+#[tactic(auto, using(crate::proofs::Entries::all_children), unfolding(crate::specs::Compact::compact))]
+fn push_items(view: View<'_>, span: Span, out: &mut Vec<u8>) -> Result<(), AllocError>
+    ensures { OnOk result (out.new.items ≡ out.old.items ++ items_text (items_of (children (rows_in view.entry) span))) }
+{
+    for (i, item) in span.of(view.entries).iter().enumerate() {
+        push_comma(i, out)?;
+        push_cell(view.below(span.first + i), item.cell, out)?;
     }
     Ok(())
 }
 
-// The children of the entry k: they stand below it.
-#[cycle(push_children_push_compact)]
-fn push_children(
-    heap: Global,
-    view: View<'_>,
-    span: Span,
-    k: usize,
-    keyed: bool,
-    out: &mut Vec<u8>,
-) -> Result<(), AllocError>
-    requires { k ≤ length view.entries.now }
-    ensures { OnOk result (out.new.items ≡ out.old.items ++ run_text keyed (rows_between (rows_of (texts_of view.entry.schema.now view.entry.«record».now view.entry.older.now) view.entry.entries.now) (min span.first k) (min (span.first + span.count) k))) }
+#[cycle(push_cell)]
+#[tactic(auto, using(crate::proofs::Entries::all_children), unfolding(crate::specs::Compact::compact))]
+fn push_members(view: View<'_>, span: Span, out: &mut Vec<u8>) -> Result<(), AllocError>
+    ensures { OnOk result (out.new.items ≡ out.old.items ++ members_text (members_of (children (rows_in view.entry) span))) }
 {
-    let first = span.first.min(k);
-    let end = span.first.saturating_add(span.count).min(k);
-    for i in first..end {
-        push_comma(first, i, out)?;
-        push_key(view, view.entries[i].key, keyed, out)?;
-        push_compact(heap, view, i, out)?;
+    for (i, member) in span.of(view.entries).iter().enumerate() {
+        push_comma(i, out)?;
+        push_key(view.text(member.key), out)?;
+        push_cell(view.below(span.first + i), member.cell, out)?;
     }
     Ok(())
 }

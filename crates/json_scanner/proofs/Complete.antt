@@ -1,6 +1,6 @@
 -- Every text of the grammar is read to its end, or to a limit.
 use Rattle.std.proofs.Common.{◌≡◌, ℕ, suc, ◌+◌, ◌<◌, ◌≤◌, true, false, eqb, leb, List, [], ◌∷◌, ◌++◌, length, Ok, Err, Result, sym, refl, ap, ◌∙◌, subst, append_assoc, append-nil, arith, length-append}
-use Rattle.std.proofs.lemmas.Bool.{cond_both, cond-true, cond-false, or_from, or_parts, leb-false, leb-true, false≢true}
+use Rattle.std.proofs.lemmas.Bool.{cond_both, or_from, or_parts, leb-false, leb-true, false≢true}
 use Rattle.std.proofs.lemmas.Bool.Decides.{nat_tests}
 use Rattle.json_scanner.specs.declared.modes.Role.TheVariants as role
 use Rattle.json_scanner.specs.declared.modes.Inside.TheVariants as inside
@@ -14,12 +14,12 @@ use Rattle.json_scanner.specs.declared.modes.Container.TheVariants as container
 use Rattle.json_scanner.specs.declared.modes.Fault.{Fault}
 use Rattle.json_scanner.specs.declared.modes.Fault.TheVariants as fault
 use Rattle.json_scanner.specs.Grammar.{Tree, Trees, nil, snoc, Members, none, with, over, overs, over_members, size, sizes, member_sizes, white, Name, Value, Elements, Entries, Text}
-use Rattle.json_scanner.specs.Bytes.{Moved, moved, opening, beginning, then}
+use Rattle.json_scanner.specs.Bytes.{Moved, opening, beginning, then}
 use Rattle.json_scanner.specs.Machine.{State, Frame, bare, sole, items, fields, field, kinds, put, surroundings, performed, carried, step, run, start}
 use Rattle.json_scanner.specs.Faults.{starts, place_of}
 use Rattle.json_scanner.proofs.Shape.{made_of, kinds-length}
 use Rattle.json_scanner.proofs.Numbers.{Opens, whole-opens, real_opens, opens-starts}
-use Rattle.json_scanner.proofs.Goes.{Goes, go, blanks, Stops, blank_stops, unsettled, step-moved, chars_run}
+use Rattle.json_scanner.proofs.Goes.{Goes, go, blanks, Stops, blank_stops, chars_run}
 use Rattle.json_scanner.proofs.NumberRuns.{want, after, whole_run, real_run, number_stops}
 
 abbrev pub first_in : Frame → List Frame → ℕ → State
@@ -37,7 +37,7 @@ colon_at ms k f bs n = made_of mode.Colon n [] (field ms k) (f ∷ bs)
 -- ---- blanks
 
 pub stay_want : (f : Frame) (bs : List Frame) (n i b : ℕ) → white b ≡ true → step i (want f bs n) b ≡ Ok (want f bs n)
-stay_want f bs n i b e = step-moved i b mode.Want n [] f bs _ refl (cond-true (white b) _ _ e)
+stay_want f bs n i b e = grind (arith, nat_tests)
 
 not_93 : (b : ℕ) → white b ≡ true → eqb b 93 ≡ false
 not_93 b e = grind (arith, nat_tests)
@@ -46,19 +46,19 @@ not_125 : (b : ℕ) → white b ≡ true → eqb b 125 ≡ false
 not_125 b e = grind (arith, nat_tests)
 
 pub stay_first : (f : Frame) (bs : List Frame) (n i b : ℕ) → white b ≡ true → step i (first_in f bs n) b ≡ Ok (first_in f bs n)
-stay_first f bs n i b e = step-moved i b mode.First n [] (items nil) (f ∷ bs) _ refl (cond-false (eqb b 93) _ _ (not_93 b e) ∙ cond-true (white b) _ _ e)
+stay_first f bs n i b e = grind (arith, nat_tests)
 
 pub stay_first_key : (f : Frame) (bs : List Frame) (n i b : ℕ) → white b ≡ true → step i (first_key f bs n) b ≡ Ok (first_key f bs n)
-stay_first_key f bs n i b e = step-moved i b mode.FirstKey n [] (fields none) (f ∷ bs) _ refl (cond-false (eqb b 125) _ _ (not_125 b e) ∙ cond-true (white b) _ _ e)
+stay_first_key f bs n i b e = grind (arith, nat_tests)
 
 pub stay_next_key : (ms : Members) (f : Frame) (bs : List Frame) (n i b : ℕ) → white b ≡ true → step i (next_key ms f bs n) b ≡ Ok (next_key ms f bs n)
-stay_next_key ms f bs n i b e = step-moved i b mode.NextKey n [] (fields ms) (f ∷ bs) _ refl (cond-true (white b) _ _ e)
+stay_next_key ms f bs n i b e = grind (arith, nat_tests)
 
 stay_colon : (ms : Members) (k : List ℕ) (f : Frame) (bs : List Frame) (n i b : ℕ) → white b ≡ true → step i (colon_at ms k f bs n) b ≡ Ok (colon_at ms k f bs n)
-stay_colon ms k f bs n i b e = step-moved i b mode.Colon n [] (field ms k) (f ∷ bs) _ refl (cond-true (white b) _ _ e)
+stay_colon ms k f bs n i b e = grind (arith, nat_tests)
 
 stay_after : (f : Frame) (bs : List Frame) (n i b : ℕ) → white b ≡ true → step i (after f bs n) b ≡ Ok (after f bs n)
-stay_after f bs n i b e = step-moved i b mode.After n [] f bs _ refl (cond-true (white b) _ _ e)
+stay_after f bs n i b e = grind (arith, nat_tests)
 
 -- ---- a value begins in a list as elsewhere
 
@@ -78,11 +78,7 @@ carried-any m k n cs f bs (Ok x) = ap Ok (performed-any m k x.mode n cs f bs x.a
 carried-any m k n cs f bs (Err g) = refl
 
 pub first_step : (f : Frame) (bs : List Frame) (n i b : ℕ) → starts b ≡ true → step i (first_in f bs n) b ≡ step i (want (items nil) (f ∷ bs) n) b
-first_step f bs n i b e =
-    let w : white b ≡ false = grind (arith, nat_tests) in
-    let c : eqb b 93 ≡ false = grind (arith, nat_tests) in
-    let same : moved mode.First (surroundings i (kinds (items nil) (f ∷ bs)) n) b ≡ moved mode.Want (surroundings i (kinds (items nil) (f ∷ bs)) n) b = cond-false (eqb b 93) _ _ c ∙ (cond-false (white b) _ _ w ∙ sym (cond-false (white b) _ _ w)) in
-    step-moved i b mode.First n [] (items nil) (f ∷ bs) _ refl same ∙ (carried-any mode.First mode.Want n [] (items nil) (f ∷ bs) (moved mode.Want (surroundings i (kinds (items nil) (f ∷ bs)) n) b) ∙ sym (unsettled i b mode.Want n [] (items nil) (f ∷ bs) refl))
+first_step f bs n i b e = grind (arith, nat_tests)
 
 -- the first byte of a value
 abbrev pub Begun : List ℕ → Type 0
@@ -165,16 +161,10 @@ module _ (N : ℕ) (P : Result Tree Fault → Type 0) where
   beginning-run : (f : Frame) (bs : List Frame) (n i b : ℕ) (r rest : List ℕ) (F : Type 0) (k : Mode) → length rest ≤ length r
       → step i (want f bs n) b ≡ carried (beginning (surroundings i (kinds f bs) n) k) (want f bs n) → (F → n < 4096) → Bad F rest
       → (n < 4096 → Goes N P (made_of k (n + 1) [] f bs) (i + 1) r) → Goes N P (want f bs n) i (b ∷ r)
-  beginning-run f bs n i b r rest F k le is few bad on eq =
-      let Q : Moved → Type 0 = λ mv. P (then (carried mv (want f bs n)) (λ y. run y (i + 1) r)) in
-      subst (λ z. P (then z (λ y. run y (i + 1) r))) (sym is)
-      (cond_both (leb 4096 n) _ _ Q (λ h. bad (λ fit. let lo = leb-true 4096 n h in let hi = few fit in omega arith) (fault.Crowded i) tt (omega arith))
-      (λ h. on (leb-false 4096 n h) (omega arith)))
+  beginning-run f bs n i b r rest F k le is few bad on eq = grind (arith, nat_tests)
 
   pub first_run : {s : List ℕ} (f : Frame) (bs : List Frame) (n i : ℕ) (rest : List ℕ) → Begun s → Goes N P (want (items nil) (f ∷ bs) n) i (s ++ rest) → Goes N P (first_in f bs n) i (s ++ rest)
-  first_run {s} f bs n i rest h g =
-      subst (λ l. Goes N P (first_in f bs n) i (l ++ rest)) (sym h.3)
-      (λ eq. subst (λ z. P (then z (λ y. run y (i + 1) (h.1 ++ rest)))) (sym (first_step f bs n i h.0 h.2)) (subst (λ l. Goes N P (want (items nil) (f ∷ bs) n) i (l ++ rest)) h.3 g eq))
+  first_run {s} f bs n i rest h g = grind (arith, nat_tests)
 
   pub name_run : {k m : List ℕ} (st : State) (ms : Members) (f : Frame) (bs : List Frame) (n : ℕ) (rest : List ℕ) → ((i b : ℕ) → white b ≡ true → step i st b ≡ Ok st)
       → ((i : ℕ) → step i st 34 ≡ Ok (made_of (mode.Text role.Key inside.Plain) n [] (fields ms) (f ∷ bs))) → Name k m → ((j : ℕ) → Goes N P (want (field ms k) (f ∷ bs) n) j rest) → (i : ℕ) → Goes N P st i (m ++ rest)

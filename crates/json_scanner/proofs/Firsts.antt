@@ -24,7 +24,7 @@ use Rattle.json_scanner.proofs.Shape.{Right, kinds-length}
 use Rattle.json_scanner.proofs.Sound.{value_viable, viable_prefix}
 use Rattle.json_scanner.proofs.Goes.{Goes, go, blanks, unsettled}
 use Rattle.json_scanner.proofs.NumberRuns.{want, after, numbering, whole_run, real_run}
-use Rattle.json_scanner.proofs.Complete.{Soft, Begun, Bad, first_in, first_key, next_key, first_step, stay_want, stay_first, stay_first_key, stay_next_key, opening-run, name_run, elements-run, entries_run, behind_le}
+use Rattle.json_scanner.proofs.Complete.{Soft, Begun, Bad, first_in, first_key, next_key, stay_want, stay_first, stay_first_key, stay_next_key, opening-run, name_run, elements-run, entries_run, behind_le}
 use Rattle.json_scanner.proofs.Places.{malformed, sound, stands, take_one}
 
 -- ---- a run to where a value is wanted
@@ -47,9 +47,7 @@ module _ (N : ℕ) (P : Result Tree Fault → Type 0) (rest : List ℕ) (h : Beg
   early F more all le out g so lt = all g so (omega arith)
 
   first_goes : (f : Frame) (bs : List Frame) (n i : ℕ) → Goes N P (want (items nil) (f ∷ bs) n) i rest → Goes N P (first_in f bs n) i rest
-  first_goes f bs n i g =
-      subst (Goes N P (first_in f bs n) i) (sym h.3)
-      (λ eq. subst (λ z. P (then z (λ y. run y (i + 1) h.1))) (sym (first_step f bs n i h.0 h.2)) (subst (Goes N P (want (items nil) (f ∷ bs) n) i) h.3 g eq))
+  first_goes f bs n i g = grind (arith, nat_tests)
 
   inner_run : {g : Frame} {w : List ℕ} (f : Frame) (bs : List Frame) (n : ℕ) → Inner g w → Early → ((j m : ℕ) → m ≡ n + suc 0 + (values_before g (f ∷ bs) - suc (values_before f bs)) → Goes N P (want g (f ∷ bs) m) j rest) → (i : ℕ) → Goes N P (want f bs n) i (w ++ rest)
   inner_run f bs n (Inner.first {a = a} ba) all k i =
@@ -92,7 +90,7 @@ place-run N P rest h (within {f = f} {g = g} {bs = bs} {u = u} {w = w} pl inn) a
 
 module _ (P : Result Tree Fault → Type 0) (from : ℕ) (f : Frame) (bs : List Frame) (n : ℕ) (many : leb 4096 n ≡ true) (misfit : P (Err (fault.Number from))) (crowded : P (Err (fault.Crowded from))) where
   broken : (i : ℕ) → P (Err (broken_off n from i))
-  broken i = subst (λ x. P (Err x)) (sym (cond-true (leb 4096 n) _ _ many)) crowded
+  broken i = grind (arith, nat_tests)
 
   judged_crowded : (i : ℕ) (s : List ℕ) (v : Result Figures NumberError) (g : Figures) → ((x : Figures) → P (run (numbering x from f bs n) (i + 1) s)) → P (then (carried (judged v n from i) (numbering g from f bs n)) (λ y. run y (i + 1) s))
   judged_crowded i s (Ok x) g ih = ih x

@@ -1,7 +1,7 @@
 -- Runs from a state, a byte at a time.
-use Rattle.std.proofs.Common.{◌≡◌, ℕ, ◌+◌, ◌<◌, true, false, cond, ◌&&◌, eqb, leb, List, [], ◌∷◌, ◌++◌, length, Some, None, Ok, Err, Option, Result, sym, refl, ap, ◌∙◌, subst, append_assoc, arith}
+use Rattle.std.proofs.Common.{◌≡◌, ℕ, ◌+◌, ◌<◌, true, false, ◌&&◌, eqb, leb, List, [], ◌∷◌, ◌++◌, length, Some, None, Ok, Err, Option, Result, sym, refl, ap, ◌∙◌, subst, append_assoc, arith}
 use lib.Utf8.{scalar}
-use Rattle.std.proofs.lemmas.Bool.{cond_both, cond-true, cond-false}
+use Rattle.std.proofs.lemmas.Bool.{cond-true, cond-false}
 use Rattle.std.proofs.lemmas.Bool.Decides.{nat_tests}
 use Rattle.json_scanner.specs.declared.modes.Role.{Role}
 use Rattle.json_scanner.specs.declared.modes.Tail.TheVariants as tails
@@ -14,8 +14,8 @@ use Rattle.json_scanner.specs.declared.modes.Mode.{Mode}
 use Rattle.json_scanner.specs.declared.modes.Mode.TheVariants as mode
 use Rattle.json_scanner.specs.declared.modes.Fault.{Fault}
 use Rattle.json_scanner.specs.Grammar.{Tree, white, plain, lead2, lead3, lead4, tail, second, hex, hexed, unit, pair, high, low, surrogate, Blank, Raw, CodeUnit, Character, Chars}
-use Rattle.json_scanner.specs.Bytes.{Moved, moved, goes, noted, act_of, spelled, spells, led, escaped_by, united, closing, figure, settled, still, then}
-use Rattle.json_scanner.specs.Machine.{State, Frame, kinds, surroundings, performed, carried, stepped, step, prepared, run}
+use Rattle.json_scanner.specs.Bytes.{Moved, moved, act_of, spelled, spells, led, escaped_by, united, closing, figure, settled, still, then}
+use Rattle.json_scanner.specs.Machine.{State, Frame, kinds, surroundings, performed, carried, stepped, step, run}
 use Rattle.json_scanner.proofs.Strings.{added, hex_small, unit_small}
 use Rattle.json_scanner.proofs.Shape.{made_of}
 
@@ -33,10 +33,10 @@ blank_stops rest (Blank.more {w = w} b bl e) sp = subst Stops (sym (append_assoc
 
 -- no number ends here
 pub unsettled : (i b : ℕ) (m : Mode) (n : ℕ) (cs : List ℕ) (f : Frame) (bs : List Frame) → settled m n ≡ Ok (still m n) → step i (made_of m n cs f bs) b ≡ stepped i (made_of m n cs f bs) b
-unsettled i b m n cs f bs h = ap (λ r. then r (λ q. stepped i (prepared q (made_of m n cs f bs)) b)) (ap (λ x. cond (figure b) (Ok (still m n)) x) h ∙ cond_both (figure b) _ _ (λ x. x ≡ Ok (still m n)) (λ _. refl) (λ _. refl))
+unsettled i b m n cs f bs h = grind (arith, nat_tests)
 
 pub step-moved : (i b : ℕ) (m : Mode) (n : ℕ) (cs : List ℕ) (f : Frame) (bs : List Frame) (mv : Moved) → settled m n ≡ Ok (still m n) → moved m (surroundings i (kinds f bs) n) b ≡ mv → step i (made_of m n cs f bs) b ≡ carried mv (made_of m n cs f bs)
-step-moved i b m n cs f bs mv h e = unsettled i b m n cs f bs h ∙ ap (λ x. carried x (made_of m n cs f bs)) e
+step-moved i b m n cs f bs mv h e = grind (arith, nat_tests)
 
 performed_piece : (r : Role) (x y : Inside) (n : ℕ) (cs : List ℕ) (f : Frame) (bs : List Frame) (p : Option Piece) → performed (act_of p) (mode.Text r y) (made_of (mode.Text r x) n cs f bs) ≡ made_of (mode.Text r y) n (added cs p) f bs
 performed_piece r x y n cs f bs None = refl
@@ -44,8 +44,7 @@ performed_piece r x y n cs f bs (Some p) = refl
 
 text_step : (r : Role) (x y : Inside) (p : Option Piece) (i b n : ℕ) (cs : List ℕ) (f : Frame) (bs : List Frame) → closing x b ≡ false → spelled x b ≡ spells y p
     → step i (made_of (mode.Text r x) n cs f bs) b ≡ Ok (made_of (mode.Text r y) n (added cs p) f bs)
-text_step r x y p i b n cs f bs c e =
-    step-moved i b (mode.Text r x) n cs f bs (goes (mode.Text r y) (act_of p)) refl (cond-false (closing x b) _ _ c ∙ ap (λ s. noted r s i) e) ∙ ap Ok (performed_piece r x y n cs f bs p)
+text_step r x y p i b n cs f bs c e = grind (arith, nat_tests)
 
 -- ---- code units, by their digits
 
@@ -80,20 +79,13 @@ lead4_quote : (b : ℕ) → lead4 b ≡ true → eqb b 34 ≡ false
 lead4_quote b e = grind (arith, nat_tests)
 
 led2 : (b : ℕ) → lead2 b ≡ true → led b ≡ spells (inside.Raw tails.One) (Some (piece.Byte b))
-led2 b e = let p : plain b ≡ false = grind (arith, nat_tests) in cond-false (plain b) _ _ p ∙ cond-true (lead2 b) _ _ e
+led2 b e = grind (arith, nat_tests)
 
 led3 : (b : ℕ) → lead3 b ≡ true → led b ≡ spells (inside.Raw (tails.SecondOfThree b)) (Some (piece.Byte b))
-led3 b e =
-    let p : plain b ≡ false = grind (arith, nat_tests) in
-    let q : lead2 b ≡ false = grind (arith, nat_tests) in
-    cond-false (plain b) _ _ p ∙ (cond-false (lead2 b) _ _ q ∙ cond-true (lead3 b) _ _ e)
+led3 b e = grind (arith, nat_tests)
 
 led4 : (b : ℕ) → lead4 b ≡ true → led b ≡ spells (inside.Raw (tails.SecondOfFour b)) (Some (piece.Byte b))
-led4 b e =
-    let p : plain b ≡ false = grind (arith, nat_tests) in
-    let q : lead2 b ≡ false = grind (arith, nat_tests) in
-    let r : lead3 b ≡ false = grind (arith, nat_tests) in
-    cond-false (plain b) _ _ p ∙ (cond-false (lead2 b) _ _ q ∙ (cond-false (lead3 b) _ _ r ∙ cond-true (lead4 b) _ _ e))
+led4 b e = grind (arith, nat_tests)
 
 -- ---- what holds of the outcome of the rest holds of the outcome of the whole; N is the length of the text
 
@@ -102,7 +94,7 @@ module _ (N : ℕ) (P : Result Tree Fault → Type 0) where
   Goes st i l = i + length l ≡ N → P (run st i l)
 
   pub go : (st next : State) (i b : ℕ) (rest : List ℕ) → step i st b ≡ Ok next → Goes next (i + 1) rest → Goes st i (b ∷ rest)
-  go st next i b rest e g n = subst (λ r. P (then r (λ x. run x (i + 1) rest))) (sym e) (g (omega arith))
+  go st next i b rest e g n = grind (arith, nat_tests)
 
   pub stop : (st : State) (f : Fault) (i b : ℕ) (rest : List ℕ) → step i st b ≡ Err f → P (Err f) → Goes st i (b ∷ rest)
   stop st f i b rest e h n = subst (λ r. P (then r (λ x. run x (i + 1) rest))) (sym e) h

@@ -1,6 +1,6 @@
 -- Runs over a number.
 use Rattle.std.proofs.Common.{◌≡◌, ℕ, ◌+◌, ◌-◌, ◌*◌, ◌<◌, Bool, true, false, cond, eqb, leb, List, [], ◌∷◌, ◌++◌, Ok, Err, Result, sym, refl, ap, ◌∙◌, subst, append_assoc, arith}
-use Rattle.std.proofs.lemmas.Bool.{cond_both, cond-true, cond-false, false≢true}
+use Rattle.std.proofs.lemmas.Bool.{cond_both, cond-true, cond-false}
 use Rattle.std.proofs.lemmas.Bool.Decides.{nat_tests}
 use Rattle.std.specs.Char.{is_ascii_digit}
 use Rattle.json_scanner.specs.declared.modes.Figures.{Figures}
@@ -11,7 +11,7 @@ use Rattle.json_scanner.specs.declared.modes.Act.TheVariants as act
 use Rattle.json_scanner.specs.declared.modes.Fault.{Fault}
 use Rattle.json_scanner.specs.declared.modes.Fault.TheVariants as fault
 use Rattle.json_scanner.specs.declared.modes.Ready.{Ready}
-use Rattle.json_scanner.specs.Grammar.{Tree, white, power, sign, unfit, Numeral, Whole, Digits, Exponent, Real}
+use Rattle.json_scanner.specs.Grammar.{Tree, power, sign, unfit, Numeral, Whole, Digits, Exponent, Real}
 use Rattle.json_scanner.specs.Bytes.{goes, begun, judged, figured, figure, settled, still, then}
 use Rattle.json_scanner.specs.Machine.{State, Frame, kinds, put, surroundings, carried, stepped, step, prepared, ended, run}
 use Rattle.json_scanner.proofs.Shape.{made_of}
@@ -27,27 +27,17 @@ abbrev pub numbering : Figures → ℕ → Frame → List Frame → ℕ → Stat
 numbering g from f bs n = made_of (mode.Number g from) n [] f bs
 
 digit_begun : (f : Frame) (bs : List Frame) (n i b : ℕ) → is_ascii_digit b ≡ true → begun mode.Want (surroundings i (kinds f bs) n) b ≡ goes (mode.Number (figures.Whole false (b - 48)) i) act.Stay
-digit_begun f bs n i b e =
-    let w : white b ≡ false = grind (arith, nat_tests) in
-    let x : eqb b 91 ≡ false = grind (arith, nat_tests) in
-    let y : eqb b 123 ≡ false = grind (arith, nat_tests) in
-    let a : eqb b 45 ≡ false = grind (arith, nat_tests) in
-    cond-false (white b) _ _ w ∙ (cond-false (eqb b 91) _ _ x ∙ (cond-false (eqb b 123) _ _ y ∙ (cond-false (eqb b 45) _ _ a ∙ cond-true (is_ascii_digit b) _ _ e)))
+digit_begun f bs n i b e = grind (arith, nat_tests)
 
 digit_want : (f : Frame) (bs : List Frame) (n i b : ℕ) → is_ascii_digit b ≡ true → step i (want f bs n) b ≡ Ok (numbering (figures.Whole false (b - 48)) i f bs n)
-digit_want f bs n i b e = step-moved i b mode.Want n [] f bs _ refl (digit_begun f bs n i b e)
+digit_want f bs n i b e = grind (arith, nat_tests)
 
 -- a figure goes on with an integer
 whole-step : (g : Bool) (k from : ℕ) (f : Frame) (bs : List Frame) (n i b : ℕ) → figure b ≡ true → step i (numbering (figures.Whole g k) from f bs n) b ≡ carried (judged (figured (figures.Whole g k) b) n from i) (numbering (figures.Whole g k) from f bs n)
-whole-step g k from f bs n i b e =
-    ap (λ r. then r (λ q. stepped i (prepared q (numbering (figures.Whole g k) from f bs n)) b)) (cond-true (figure b) (Ok (still (mode.Number (figures.Whole g k) from) n)) (settled (mode.Number (figures.Whole g k) from) n) e)
+whole-step g k from f bs n i b e = grind (arith, nat_tests)
 
 digit_figured : (g : Bool) (k b : ℕ) → is_ascii_digit b ≡ true → 0 < k → figured (figures.Whole g k) b ≡ cond (unfit g (k * 10 + (b - 48))) (Err number_error.Unfit) (Ok (figures.Whole g (k * 10 + (b - 48))))
-digit_figured g k b e pos =
-    let np : eqb b 46 ≡ false = grind (arith, nat_tests) in
-    let ne : power b ≡ false = grind (arith, nat_tests) in
-    let nz : eqb k 0 ≡ false = grind (arith, nat_tests) in
-    cond-false (eqb b 46) _ _ np ∙ (cond-false (power b) _ _ ne ∙ (cond-true (is_ascii_digit b) _ _ e ∙ cond-false (eqb k 0) _ _ nz))
+digit_figured g k b e pos = grind (arith, nat_tests)
 
 digit_figure : (b : ℕ) → is_ascii_digit b ≡ true → figure b ≡ true
 digit_figure b e = grind (arith, nat_tests)
@@ -56,10 +46,10 @@ power-figure : (b : ℕ) → power b ≡ true → figure b ≡ true
 power-figure b e = grind (arith, nat_tests)
 
 power-figured : (g : Bool) (k b : ℕ) → power b ≡ true → figured (figures.Whole g k) b ≡ Ok figures.Power
-power-figured g k b e = let p : eqb b 46 ≡ false = grind (arith, nat_tests) in cond-false (eqb b 46) _ _ p ∙ cond-true (power b) _ _ e
+power-figured g k b e = grind (arith, nat_tests)
 
 sign-figured : (b : ℕ) → sign b ≡ true → figured figures.Power b ≡ Ok figures.Sign
-sign-figured b e = let d : is_ascii_digit b ≡ false = grind (arith, nat_tests) in cond-false (is_ascii_digit b) _ _ d ∙ cond-true (sign b) _ _ e
+sign-figured b e = grind (arith, nat_tests)
 
 unfit_more : (g : Bool) (k b : ℕ) → 0 < k → unfit g k ≡ true → unfit g (k * 10 + (b - 48)) ≡ true
 unfit_more false k b pos h = grind (arith, nat_tests)
@@ -101,11 +91,7 @@ module _ (N : ℕ) (P : Result Tree Fault → Type 0) (from : ℕ) (f : Frame) (
       (cond_both (unfit g (m * 10 + (b - 48))) _ _ (λ v. P (then (carried (judged v n from j) at) (λ x. run x (j + 1) rest))) bad (λ fit. k fit (j + 1) (omega arith)))))
 
   minus_first : (b : ℕ) (r : List ℕ) → is_ascii_digit b ≡ true → Bad (unfit true (b - 48)) → On true (b - 48) r → (i : ℕ) → Goes N P (numbering figures.Minus from f bs n) i (b ∷ r)
-  minus_first b r e bad k i eq =
-      let at : State = numbering figures.Minus from f bs n in
-      subst (λ x. P (then x (λ y. run y (i + 1) r))) (sym (unsettled i b (mode.Number figures.Minus from) n [] f bs refl))
-      (cond_both (eqb b 48) _ _ (λ v. P (then (carried (judged v n from i) at) (λ x. run x (i + 1) r))) (λ z. bad (minus_zero b z))
-      (λ z. cond_both (is_ascii_digit b) _ _ (λ v. P (then (carried (judged v n from i) at) (λ x. run x (i + 1) r))) (λ _. k (minus_fits b e z) (i + 1) (omega arith)) (λ x. absurd (false≢true (sym x ∙ e)))))
+  minus_first b r e bad k i eq = grind (arith, nat_tests)
 
   -- a digit behind a point or an exponent
   digit_stop : (g : Figures) (s rest : List ℕ) → ((b : ℕ) → is_ascii_digit b ≡ true → figured g b ≡ (Err number_error.Unfit)) → settled (mode.Number g from) n ≡ Ok (still (mode.Number g from) n) → Digits s → P (Err (fault.Number from)) → (i : ℕ) → Goes N P (numbering g from f bs n) i (s ++ rest)

@@ -184,11 +184,11 @@ kinds-length f [] = refl
 kinds-length f (g ∷ gs) = ap suc (kinds-length g gs)
 
 byte : {st : State} (u : List ℕ) (b c : ℕ) → eqb b c ≡ true → Shaped st (u ++ c ∷ []) → Shaped st (u ++ b ∷ [])
-byte {st} u b c e sh = subst (λ x. Shaped st (u ++ x ∷ [])) (sym (eqb-true b c e)) sh
+byte {st} u b c e sh = grind (arith, nat_tests)
 
 module _ {f : Frame} {bs : List Frame} {u : List ℕ} (i b n : ℕ) (at : i ≡ length u) (pl : Place f bs u) (cnt : n ≡ values_before f bs) where
   crowds : starts b ≡ true → leb 4096 n ≡ true → Crowds (u ++ b ∷ []) i
-  crowds st many = record { before = u; b = b; rest = []; f = f; bs = bs; split = refl; place = at; wanted = pl; begins = st; many = subst (λ x. 4096 ≤ x) cnt (leb-true 4096 n many) }
+  crowds st many = grind (arith, nat_tests)
 
   nests : (eqb b 91 || eqb b 123) ≡ true → leb 200 (length (kinds f bs)) ≡ true → Nests (u ++ b ∷ []) i
   nests br deep = record { before = u; b = b; rest = []; f = f; bs = bs; split = refl; place = at; wanted = pl; bracket = br; deep = subst (λ x. 200 ≤ x) (kinds-length f bs) (leb-true 200 (length (kinds f bs)) deep) }
@@ -203,11 +203,10 @@ module _ {f : Frame} {bs : List Frame} {u : List ℕ} (i b n : ℕ) (at : i ≡ 
       cond_both (leb 200 (length (kinds f bs))) _ _ P (nests br) (λ _. cond_both (leb 4096 n) _ _ P (crowds (bracket_starts br)) (λ _. ok))
 
   beginning_good : (m k : Mode) → starts b ≡ true → begins k ≡ 1 → Shape k [] f bs (u ++ b ∷ []) → Good (u ++ b ∷ []) (carried (beginning (surroundings i (kinds f bs) n) k) (made_of m n [] f bs))
-  beginning_good m k st one ok =
-      cond_both (leb 4096 n) _ _ (λ mv. Good (u ++ b ∷ []) (carried mv (made_of m n [] f bs))) (crowds st) (λ _. (ok, omega arith))
+  beginning_good m k st one ok = grind (arith, nat_tests)
 
   at_byte : {k : Mode} {cs : List ℕ} {g : Frame} {gs : List Frame} (c : ℕ) → eqb b c ≡ true → Shape k cs g gs (u ++ c ∷ []) → Shape k cs g gs (u ++ b ∷ [])
-  at_byte {k} {cs} {g} {gs} c e sh = subst (λ x. Shape k cs g gs (u ++ x ∷ [])) (sym (eqb-true b c e)) sh
+  at_byte {k} {cs} {g} {gs} c e sh = grind (arith, nat_tests)
 
   starts_at : (c : ℕ) → starts c ≡ true → eqb b c ≡ true → starts b ≡ true
   starts_at c s e = subst (λ x. starts x ≡ true) (sym (eqb-true b c e)) s

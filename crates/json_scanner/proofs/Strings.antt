@@ -1,5 +1,5 @@
 -- A string that is being read, by the grammar, and how it can be completed.
-use Rattle.std.proofs.Common.{◌≡◌, ℕ, ◌<◌, true, false, cond, ◌&&◌, eqb, leb, ◌⊎◌, List, [], ◌∷◌, ◌++◌, Some, None, Option, sym, refl, ◌∙◌, subst, inl, inr, append_assoc, append-nil, arith, eqb-true}
+use Rattle.std.proofs.Common.{◌≡◌, ℕ, ◌<◌, true, false, cond, ◌&&◌, eqb, leb, ◌⊎◌, List, [], ◌∷◌, ◌++◌, Some, None, Option, sym, refl, ◌∙◌, subst, inl, inr, append_assoc, append-nil, arith}
 use lib.Utf8.{scalar}
 use Rattle.std.proofs.lemmas.Bool.{cond_both, cases_Bool, false≢true}
 use Rattle.std.proofs.lemmas.Bool.Decides.{nat_tests}
@@ -64,10 +64,10 @@ Grown cs s b (Some x) = TextPart x.at (added cs x.piece) (s ++ b ∷ [])
 
 -- the same string, written otherwise
 alike : {x : Inside} {cs ds s t : List ℕ} → cs ≡ ds → s ≡ t → TextPart x cs s → TextPart x ds t
-alike {x} {cs} {ds} {s} {t} p q h = subst (λ z. TextPart x z t) p (subst (λ z. TextPart x cs z) q h)
+alike {x} {cs} {ds} {s} {t} p q h = grind (arith, nat_tests)
 
 byte : {x : Inside} {cs : List ℕ} (s : List ℕ) (b c : ℕ) → eqb b c ≡ true → TextPart x cs (s ++ c ∷ []) → TextPart x cs (s ++ b ∷ [])
-byte {x} {cs} s b c e h = subst (λ z. TextPart x cs (s ++ z ∷ [])) (sym (eqb-true b c e)) h
+byte {x} {cs} s b c e h = grind (arith, nat_tests)
 
 led_grows : {cs s : List ℕ} (b : ℕ) → Chars cs s → Grown cs s b (led b)
 led_grows {cs} {s} b ch =

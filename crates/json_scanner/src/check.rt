@@ -6,6 +6,7 @@ ghost use Rattle.std.specs.Prelude.{◌≡◌};
 use super::modes::Fault;
 use super::scanner::Scanner;
 
+// What the scanner answers, byte by byte; `check_text` says what that means of the text.
 fn scan_text(text: &[u8]) -> Result<(), Fault>
     ensures { result ≡ forgotten (scan fresh 0 text.now) }
 {

@@ -15,6 +15,7 @@ pub enum Fault {
     Crowded(usize),
 }
 
+// The default fills the room that none has taken yet.
 #[derive(Clone, Copy, PartialEq, Eq, Default, Debug)]
 pub enum Container {
     #[default]
@@ -38,7 +39,7 @@ pub enum Tail {
     SecondOfFour(u8),
 }
 
-// The values of the hexadecimal digits so far.
+// The values of the hexadecimal digits so far: by variants, there is no fifth, as beside a count there might be.
 #[derive(Clone, Copy, PartialEq, Eq, Debug)]
 pub enum Hex {
     Zero,
@@ -73,7 +74,7 @@ pub struct Spelled {
     pub piece: Option<Piece>,
 }
 
-// The letters of a literal so far.
+// The letters of a literal so far: by variants, none runs past its word, as a count of letters might.
 #[derive(Clone, Copy, PartialEq, Eq, Debug)]
 pub enum Word {
     N,
@@ -89,6 +90,7 @@ pub enum Word {
 }
 
 // The parts of a number so far: its sign and digits, and what follows a point or an exponent's letter.
+// `minus` is whether a minus stands there, which is all that the grammar knows of a sign.
 #[derive(Clone, Copy, PartialEq, Eq, Debug)]
 pub enum Figures {
     Minus,

@@ -1,8 +1,9 @@
 -- What is shown of an answer, and buffers that are filled whole.
-use Rattle.std.proofs.Common.{◌≡◌, ℕ, ◌+◌, ◌/◌, ◌%◌, ◌^◌, ◌<◌, Bool, true, false, cond, ltb, leb, List, [], ◌∷◌, ◌++◌, map, length, get_or, take, drop, Some, None, Option, sym, refl, ap, ◌∙◌, append-nil, arith, drop_of_length-le}
+use Rattle.std.proofs.Common.{◌≡◌, ℕ, zero, suc, ◌+◌, ◌/◌, ◌%◌, ◌^◌, ◌<◌, ◌==◌, ◌&&◌, Bool, true, false, cond, ltb, leb, inl, inr, List, [], ◌∷◌, ◌++◌, map, length, get_or, take, drop, slice_index, Some, None, Option, sym, refl, ap, ◌∙◌, append-nil, arith, drop_of_length-le}
 use Rattle.std.specs.Option.{option_map}
-use Rattle.std.proofs.lemmas.List.{flat_map_more, map_more, take_all, take_at, take_more}
-use Rattle.std.proofs.lemmas.Bool.{le-leb}
+use Rattle.std.proofs.lemmas.List.{flat_map_more, map_more, take_all, take_at}
+use Rattle.std.proofs.lemmas.Bool.{and_parts, cases_lt, eqb-true, le-leb}
+use Rattle.hex.specs.Hex.{encode_lower, encode_with, lower_digits}
 use Rattle.base64_texts.specs.Base64Decoder.{filled}
 use Rattle.escaping.specs.Answers.{counted}
 use Rattle.writer.specs.Written.{written}
@@ -17,27 +18,36 @@ pub some_counted : (n m : ℕ) → Some m ≡ counted n → m ≡ n
 some_counted n m e = by_count n m (ltb n (2 ^ 64)) e
 
 -- a buffer of a text's own length, once the text is written into it
-pub filled-whole : (before out items s : List ℕ) (n : ℕ) → length before ≡ n → length s ≡ n → out ≡ written before 0 s → length out ≡ n → take n (out ++ drop (length out) items) ≡ s
-filled-whole before out items s n b h e o = take_at out (drop (length out) items) n o ∙ (e ∙ written-whole before s (h ∙ sym b))
+pub whole_written : (before out items s : List ℕ) (n : ℕ) → length before ≡ n → length s ≡ n → out ≡ written before 0 s → length out ≡ n → take n (out ++ drop (length out) items) ≡ s
+whole_written before out items s n b h e o = take_at out (drop (length out) items) n o ∙ (e ∙ written-whole before s (h ∙ sym b))
 
--- two digits more
-hexed_push : (s : List ℕ) (b : ℕ) → hexed (s ++ b ∷ []) ≡ (hexed s ++ hex_digit (b / 16) ∷ []) ++ hex_digit (b % 16) ∷ []
-unfolding hexed
-hexed_push [] b = refl
-hexed_push (a ∷ s) b = ap (λ t. hex_digit (a / 16) ∷ (hex_digit (a % 16) ∷ t)) (hexed_push s b)
+-- ---- hexadecimal
 
-pub hexed_none : hexed [] ≡ []
-unfolding hexed
-hexed_none = refl
+-- the test of the first n digits of the table, which computes
+abbrev all_digits : ℕ → Bool
+all_digits zero = true
+all_digits (suc n) = (slice_index lower_digits n == hex_digit n) && all_digits n
 
-pub hexed_more : (s : List ℕ) (i : ℕ) {t u v : List ℕ} → i < length s → t ≡ hexed (take i s) → u ≡ t ++ hex_digit (get_or s i 0 / 16) ∷ [] → v ≡ u ++ hex_digit (get_or s i 0 % 16) ∷ [] → v ≡ hexed (take (i + 1) s)
-hexed_more s i {t} {u} {v} h e f g =
-    let b = get_or s i 0 in
-    let step : hexed (take (i + 1) s) ≡ (hexed (take i s) ++ hex_digit (b / 16) ∷ []) ++ hex_digit (b % 16) ∷ [] = ap hexed (take_more s i 0 h) ∙ hexed_push (take i s) b in
-    g ∙ (ap (λ x. x ++ hex_digit (b % 16) ∷ []) (f ∙ ap (λ x. x ++ hex_digit (b / 16) ∷ []) e) ∙ sym step)
+digit-at : (n k : ℕ) → all_digits n ≡ true → k < n → slice_index lower_digits k ≡ hex_digit k
+digit-at zero k h lt = absurd (omega arith)
+digit-at (suc n) k h lt =
+    let parts = and_parts (slice_index lower_digits n == hex_digit n) (all_digits n) h in
+    elim (cases_lt k n) [
+      | inl below ↦ digit-at n k parts.1 below
+      | inr top ↦
+          let e : k ≡ n = omega arith in
+          rw e (eqb-true (slice_index lower_digits n) (hex_digit n) parts.0)
+    ]
 
-pub hexed_all : (s : List ℕ) (i : ℕ) {t : List ℕ} → length s ≡ i → t ≡ hexed (take i s) → t ≡ hexed s
-hexed_all s i h e = e ∙ ap hexed (take_all i s (omega arith))
+-- what the library writes of bytes
+pub encodes_hexed : (s : List ℕ) → ((i : ℕ) → get_or s i 0 < 256) → encode_lower s ≡ hexed s
+unfolding hexed encode_with
+encodes_hexed [] h = refl
+encodes_hexed (b ∷ s) h =
+    let low : b < 256 = h 0 in
+    let one : slice_index lower_digits (b / 16) ≡ hex_digit (b / 16) = digit-at 16 (b / 16) refl (omega arith) in
+    let two : slice_index lower_digits (b % 16) ≡ hex_digit (b % 16) = digit-at 16 (b % 16) refl (omega arith) in
+    λ i. one i ∷ (two i ∷ encodes_hexed s (λ k. h (suc k)) i)
 
 by_room : (bytes before : List ℕ) (b : Bool) → b ≡ true → length bytes ≡ length before → cond b (bytes ++ drop (0 + length bytes) before) before ≡ bytes
 by_room bytes before b e h =
@@ -45,9 +55,9 @@ by_room bytes before b e h =
     ap (λ t. cond t (bytes ++ drop (0 + length bytes) before) before) e ∙ (ap (λ t. bytes ++ t) none ∙ append-nil bytes)
 
 -- a buffer of the decoded length, once a text is decoded into it
-pub decoded-whole : (o : Option (List ℕ)) (m n : ℕ) (before out items : List ℕ) → Some m ≡ option_map length o → n ≡ m → length before ≡ n → out ≡ filled o before → length out ≡ n → hexed (take n (out ++ drop (length out) items)) ≡ shown_bytes o
-decoded-whole None m n before out items c a b e l = let z : ◌≡◌ {A = ℕ} 0 1 = cc in absurd (omega arith)
-decoded-whole (Some bytes) m n before out items c a b e l =
+pub whole_decoded : (o : Option (List ℕ)) (m n : ℕ) (before out items : List ℕ) → Some m ≡ option_map length o → n ≡ m → length before ≡ n → out ≡ filled o before → length out ≡ n → hexed (take n (out ++ drop (length out) items)) ≡ shown_bytes o
+whole_decoded None m n before out items c a b e l = let z : ◌≡◌ {A = ℕ} 0 1 = cc in absurd (omega arith)
+whole_decoded (Some bytes) m n before out items c a b e l =
     let same : m ≡ length bytes = cc in
     let room : leb (length bytes) (length before) ≡ true = le-leb (length bytes) (length before) (omega arith) in
     let whole : out ≡ bytes = e ∙ by_room bytes before (leb (length bytes) (length before)) room (omega arith) in

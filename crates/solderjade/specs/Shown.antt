@@ -1,5 +1,8 @@
 -- What the program prints of a conversion's answer.
-use Rattle.std.specs.Prelude.{ℕ, ◌+◌, ◌/◌, ◌%◌, cond, List, [], ◌∷◌, ◌++◌, ℤ, Some, None, codes, Option, nat_lt}
+use Rattle.std.specs.Prelude.{◌≡◌, ℕ, ◌+◌, ◌/◌, ◌%◌, cond, List, [], ◌∷◌, ◌++◌, ℤ, Some, None, codes, Option, Result, Vec, IfOk, vec_items, nat_lt}
+use Rattle.std.specs.Borrow.{Bor}
+use Rattle.std.specs.Fn.{Shared}
+use Rattle.solderjade.specs.declared.failure.Failure.{Failure}
 use Rattle.base64_texts.specs.Base64.{decoded}
 use Rattle.durations.specs.Duration.{duration}
 use Rattle.escaping.specs.Escape.{escape}
@@ -29,6 +32,10 @@ shown_bytes None = codes "text"
 -- the line of each word, with its end
 abbrev pub lines_of : (List ℕ → List ℕ) → List (List ℕ) → List ℕ
 lines_of line words = flat_map (λ w. line w ++ 10 ∷ []) words
+
+-- each call of f that is good gives the line of the word that it was called with
+abbrev pub Prints : {F H Z : Type 0} → Shared F (H × (Bor (List ℕ) × Unit {0})) (Result (Vec ℕ Z) Failure) → F → (List ℕ → List ℕ) → Type 0
+Prints {H = H} {Z = Z} g f line = (heap : H) (word : Bor (List ℕ)) (r : Result (Vec ℕ Z) Failure) → g.post f (heap, (word, tt)) r → IfOk r (λ v. vec_items v ≡ line word.now)
 
 -- what a call prints, by its verb and the words behind it, where `usage` tells what the program can do; nothing where it is none
 abbrev pub answered : List ℕ → List (List ℕ) → Option (List ℕ)

@@ -1,10 +1,11 @@
 // Why a call did not end well, and what a person is told of it.
-ghost use Rattle.std.specs.Prelude.{◌≡◌};
+ghost use Rattle.std.specs.Prelude.{◌≡◌, Some};
+ghost use Rattle.solderjade.specs.Told.{told};
 ghost use Rattle.solderjade.specs.declared.failure.Failure.TheVariants as failure;
 
 use super::usage::USAGE;
 use std::alloc::{AllocError, AllocFailed};
-use std::io;
+use std::{fmt, io};
 
 #[derive(Debug, Drop)]
 pub enum Failure {
@@ -39,14 +40,16 @@ impl From<io::Error> for Failure {
     }
 }
 
-impl Failure {
-    // Tells of the failure on standard error; where even that cannot be written, nothing is left to do.
-    pub fn tell(&self, rt: &HostRuntime) {
-        let text = match self {
+impl fmt::Display for Failure {
+    ghost use Rattle.solderjade.specs.declared.usage.TheConstants.{USAGE};
+
+    ghost output = { λ x. Some (told USAGE.now x) };
+
+    fn fmt<W: fmt::Write>(&self, f: &mut fmt::Formatter<W>) -> fmt::Result {
+        f.write_str(match self {
             Failure::Usage => USAGE,
             Failure::Memory => "solderjade: out of memory",
             Failure::Io => "solderjade: cannot read or write",
-        };
-        let _ = rt.eprintln(text);
+        })
     }
 }

@@ -8,13 +8,9 @@ mod bytes;
 mod duration;
 mod escape;
 mod failure;
-mod hex;
 mod lines;
 mod usage;
 
-use bytes::Bytes;
-use duration::Durations;
-use escape::Escapes;
 use failure::Failure;
 use std::alloc::Global;
 use std::env;
@@ -26,13 +22,11 @@ use usage::USAGE;
 fn answer(heap: Global, words: &[String]) -> Result<Vec<u8>, Failure>
     ensures { IfOk result (λ v. answered USAGE.now (map string_bytes words.now) ≡ Some v.items) }
 {
-    let [verb, rest @ ..] = words else {
-        return Err(Failure::Usage);
-    };
+    let (verb, rest) = words.split_first().ok_or(Failure::Usage)?;
     match verb.as_str() {
-        "bytes" => lines::print_all(heap, &Bytes, rest),
-        "duration" => lines::print_all(heap, &Durations, rest),
-        "escape" => lines::print_all(heap, &Escapes, rest),
+        "bytes" => lines::print_all(heap, rest, bytes::line),
+        "duration" => lines::print_all(heap, rest, duration::line),
+        "escape" => lines::print_all(heap, rest, escape::line),
         "help" => usage::help(heap),
         _ => Err(Failure::Usage),
     }
@@ -50,7 +44,8 @@ fn main(rt: HostRuntime) -> ExitCode {
     match run(&rt) {
         Ok(()) => ExitCode::SUCCESS,
         Err(failure) => {
-            failure.tell(&rt);
+            // where even that cannot be written, nothing is left to do
+            let _ = rt.eprintln(failure);
             ExitCode::FAILURE
         }
     }

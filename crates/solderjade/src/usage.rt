@@ -17,7 +17,5 @@ Each answer is a line of its own.";
 pub fn help(heap: Global) -> Result<Vec<u8>, Failure>
     ensures { IfOk result (λ v. v.items ≡ USAGE.now ++ 10 ∷ []) }
 {
-    let mut text = Vec::from_slice(heap, USAGE.as_bytes())?;
-    text.extend_from_slice(b"\n")?;
-    Ok(text)
+    Ok(format!(in heap; "{USAGE}\n")?.into_bytes())
 }

@@ -171,7 +171,7 @@ blamed_at i p r h e = subst (Blamed i) e h
 stuck : (s : List ℕ) (st : State) (u : List ℕ) (i p : ℕ) → i ≡ length u → Shaped st u → run st i s ≡ Err (fault.Malformed p) → Stuck st u i s p
 stuck [] st u i p at sh e =
     let here : p ≡ i = blamed_at i p _ (finished_blamed i st) e in
-    record { w = []; r = []; split = refl; place = omega arith; so_far = subst Viable (sym (append-nil u)) (viable sh.0); dead = λ c more rest q. absurd (let z : ◌≡◌ {A = ℕ} 0 1 = cc in omega arith) }
+    record { w = []; r = []; split = refl; place = omega arith; so_far = subst Viable (sym (append-nil u)) (viable sh.0); dead = λ c more rest q. cc }
 stuck (b ∷ s) st u i p at sh e =
     stuck_next st u i b s p (step i st b) refl sh (step_good st u i b at sh) (step_blamed i st b) (λ next h q. stuck s next (u ++ b ∷ []) (i + 1) p (at_next u i b at) h q) e
 
@@ -179,12 +179,12 @@ stuck (b ∷ s) st u i p at sh e =
 
 hard : (f : Fault) (p : ℕ) → Soft f → ◌≡◌ {A = Result Tree Fault} (Err f) (Err (fault.Malformed p)) → ⊥
 hard (fault.Malformed q) p so e = so
-hard (fault.Nested q) p so e = let z : ◌≡◌ {A = ℕ} 0 1 = cc in omega arith
-hard (fault.Number q) p so e = let z : ◌≡◌ {A = ℕ} 0 1 = cc in omega arith
-hard (fault.Crowded q) p so e = let z : ◌≡◌ {A = ℕ} 0 1 = cc in omega arith
+hard (fault.Nested q) p so e = cc
+hard (fault.Number q) p so e = cc
+hard (fault.Crowded q) p so e = cc
 
 never_malformed : {v : Tree} {s : List ℕ} (p : ℕ) → Text v s → run start 0 s ≡ Err (fault.Malformed p) → ⊥
-never_malformed {v} {s} p tx = text_run (length s) (λ o. o ≡ Err (fault.Malformed p) → ⊥) tx refl (λ _ f so _ e. hard f p so e) (λ _ _ e. let z : ◌≡◌ {A = ℕ} 0 1 = cc in omega arith)
+never_malformed {v} {s} p tx = text_run (length s) (λ o. o ≡ Err (fault.Malformed p) → ⊥) tx refl (λ _ f so _ e. hard f p so e) (λ _ _ e. cc)
 
 pub take_one : (w : List ℕ) (b : ℕ) (r : List ℕ) → take (length w + 1) (w ++ b ∷ r) ≡ w ++ b ∷ []
 take_one w b r = ap (take (length w + 1)) (sym (append_assoc w (b ∷ []) r)) ∙ take_at (w ++ b ∷ []) r (length w + 1) (omega (arith, length-append w (b ∷ [])))

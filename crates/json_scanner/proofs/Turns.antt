@@ -13,16 +13,16 @@ first {X} {Y} x y e = ap (λ (z : X × Y). z.0) e
 other : {X Y : Type 0} (x y : X × Y) → x ≡ y → x.1 ≡ y.1
 other {X} {Y} x y e = ap (λ (z : X × Y). z.1) e
 
-left_ok : (c d : Control) (s : Step) (t : Result (Control × Step) Fault) → (d, Ok s) ≡ left_with c t → t ≡ Ok (d, s)
+pub left_ok : (c d : Control) (s : Step) (t : Result (Control × Step) Fault) → (d, Ok s) ≡ left_with c t → t ≡ Ok (d, s)
 left_ok c d s (Ok x) e =
     let p : d ≡ x.0 = first (d, Ok s) (x.0, Ok x.1) e in
     let o : Ok s ≡ Ok x.1 = other (d, Ok s) (x.0, Ok x.1) e in
     let q : s ≡ x.1 = cc in
     λ i. Ok (sym p i, sym q i)
-left_ok c d s (Err f) e = let o : Ok s ≡ Err f = other (d, Ok s) (c, Err f) e in absurd (let z : ◌≡◌ {A = ℕ} 0 1 = cc in omega arith)
+left_ok c d s (Err f) e = let o : Ok s ≡ Err f = other (d, Ok s) (c, Err f) e in cc
 
-left_err : (c d : Control) (f : Fault) (t : Result (Control × Step) Fault) → (d, Err f) ≡ left_with c t → t ≡ Err f
-left_err c d f (Ok x) e = let o : Err f ≡ Ok x.1 = other (d, Err f) (x.0, Ok x.1) e in absurd (let z : ◌≡◌ {A = ℕ} 0 1 = cc in omega arith)
+pub left_err : (c d : Control) (f : Fault) (t : Result (Control × Step) Fault) → (d, Err f) ≡ left_with c t → t ≡ Err f
+left_err c d f (Ok x) e = let o : Err f ≡ Ok x.1 = other (d, Err f) (x.0, Ok x.1) e in cc
 left_err c d f (Err g) e = let o : ◌≡◌ {A = Result Step Fault} (Err f) (Err g) = other (d, Err f) (c, Err g) e in let p : f ≡ g = cc in ap Err (sym p)
 
 module _ (s : List ℕ) (i : ℕ) (c d : Control) (lt : i < length s) where

@@ -1,6 +1,7 @@
 -- What an entry of a table means, by those below it; and where values are ordered, the keys of a map's entries ascend.
-use Rattle.std.proofs.Common.{◌≡◌, ℕ, zero, suc, ◌+◌, ◌-◌, ◌<◌, ◌≤◌, min, List, [], ◌∷◌, ◌++◌, length, get_or, take, drop, Less, sym, refl, ap, ◌∙◌, ⊎_elim, append_assoc, arith, drop_of_length-le}
-use Rattle.std.proofs.lemmas.List.{take_all, take_more, take-take, take-append-drop, get_or-take, get_or-drop, get_or_at, drop-take, length-take, length-take-le, length-drop}
+use Rattle.std.proofs.Common.{◌≡◌, ℕ, zero, suc, ◌+◌, ◌-◌, ◌<◌, ◌≤◌, min, List, [], ◌∷◌, ◌++◌, length, get_or, take, drop, Less, sym, ap, ◌∙◌, ⊎_elim, append_assoc, arith, drop_of_length-le}
+use Rattle.std.proofs.Math.Seq.{take-nil}
+use Rattle.std.proofs.lemmas.List.{take_min, take_more, take-take, take-append-drop, get_or-take, get_or-drop, get_or_at, drop-take, length-take, length-take-le, length-drop}
 use Rattle.std.proofs.lemmas.Bool.{cases_lt}
 use Rattle.order.specs.Bytes.{compare_bytes}
 use Rattle.json_values.specs.declared.parts.Source.{Source}
@@ -46,40 +47,22 @@ module _ (s : Source → List ℕ) (t : List Entry) (i : ℕ) (h : i < length t)
 
 -- ---- children, by their numbers
 
-take-nil : (n : ℕ) → ◌≡◌ {A = List Row} (take n []) []
-take-nil zero = refl
-take-nil (suc n) = refl
-
-take_of_take : (m n : ℕ) (l : List Row) → take m (take n l) ≡ take (min m n) l
-take_of_take m n l = ⊎_elim shorter longer (cases_lt m n)
-  where
-    shorter : m < n → take m (take n l) ≡ take (min m n) l
-    shorter lt =
-        let le : m ≤ n = omega arith in
-        let k : min m n ≡ m = omega arith in
-        take-take m n l le ∙ ap (λ z. take z l) (sym k)
-
-    longer : n ≤ m → take m (take n l) ≡ take (min m n) l
-    longer le =
-        let k : min m n ≡ n = omega arith in
-        take_all m (take n l) (omega (arith, length-take n l)) ∙ ap (λ z. take z l) (sym k)
-
 -- the children of the entry k, by their numbers
 pub children_are : (rows : List Row) (sp : Span) (k : ℕ) → k ≤ length rows → children (take k rows) sp ≡ take (min (sp.first + sp.count) k - min sp.first k) (drop (min sp.first k) rows)
-children_are rows sp k h = ⊎_elim inside outside (cases_lt sp.first k)
-  where
-    inside : sp.first < k → children (take k rows) sp ≡ take (min (sp.first + sp.count) k - min sp.first k) (drop (min sp.first k) rows)
-    inside lt =
-        let f : min sp.first k ≡ sp.first = omega arith in
-        let n : sp.first + (k - sp.first) ≡ k = omega arith in
-        let m : min sp.count (k - sp.first) ≡ min (sp.first + sp.count) k - sp.first = omega arith in
-        ap (λ z. take sp.count (drop sp.first (take z rows))) (sym n) ∙ (ap (take sp.count) (drop-take sp.first (k - sp.first) rows) ∙ (take_of_take sp.count (k - sp.first) (drop sp.first rows) ∙ (ap (λ z. take z (drop sp.first rows)) m ∙ ap (λ z. take (min (sp.first + sp.count) k - z) (drop z rows)) (sym f))))
-
-    outside : k ≤ sp.first → children (take k rows) sp ≡ take (min (sp.first + sp.count) k - min sp.first k) (drop (min sp.first k) rows)
-    outside le =
-        let none : drop sp.first (take k rows) ≡ [] = drop_of_length-le (take k rows) (omega (arith, length-take-le k rows h)) in
-        let z : min (sp.first + sp.count) k - min sp.first k ≡ 0 = omega arith in
-        ap (take sp.count) none ∙ (take-nil sp.count ∙ sym (ap (λ n. take n (drop (min sp.first k) rows)) z))
+children_are rows sp k h = ⊎_elim
+    (λ (lt : sp.first < k).
+    let rest : drop sp.first (take k rows) ≡ take (k - sp.first) (drop sp.first rows) = ap (λ n. drop sp.first (take n rows)) (omega arith) ∙ drop-take sp.first (k - sp.first) rows in
+    let f : min sp.first k ≡ sp.first = omega arith in
+    let long : length (take (k - sp.first) (drop sp.first rows)) ≡ k - sp.first = omega (arith, length-take (k - sp.first) (drop sp.first rows), length-drop sp.first rows) in
+    let n : min sp.count (length (take (k - sp.first) (drop sp.first rows))) ≡ min (sp.first + sp.count) k - sp.first = omega (arith, long) in
+    ap (take sp.count) rest
+    ∙ sym (take_min sp.count (take (k - sp.first) (drop sp.first rows)))
+    ∙ rw (n, f) (take-take (min (sp.first + sp.count) k - sp.first) (k - sp.first) (drop sp.first rows) (omega arith)))
+    (λ (le : k ≤ sp.first).
+    let none : drop sp.first (take k rows) ≡ [] = drop_of_length-le (take k rows) (omega (arith, length-take-le k rows h)) in
+    let z : min (sp.first + sp.count) k - min sp.first k ≡ 0 = omega arith in
+    rw (none, z) (take-nil sp.count))
+    (cases_lt sp.first k)
 
 -- a child is what its entry means by those below it
 module _ (s : Source → List ℕ) (t : List Entry) (sp : Span) where

@@ -5,7 +5,9 @@ use Rattle.json_values.specs.declared.parts.Source.{Source}
 use Rattle.json_values.specs.declared.table.Entry.{Entry}
 use Rattle.json_values.specs.declared.table.Cell.{Cell}
 use Rattle.json_values.specs.declared.table.Cell.TheVariants as cell
-use Rattle.json_values.specs.Meaning.{value_at}
+use Rattle.json_values.specs.declared.table.Span.{Span}
+use Rattle.json_values.specs.Meaning.{Ascending, children, members_of, rows_of, value_at}
+use Rattle.json_values.specs.Ordered.{OrderedMembers}
 use Rattle.std.specs.List.{AllByRecursion}
 
 -- a part ends within the texts of its store
@@ -33,3 +35,7 @@ Grown before after = (s : Source) → (more : List ℕ) × (after s ≡ before s
 pub record MeaningsStay : Type 0 where
   pub table_grows : (texts : Source → List ℕ) (entries more : List Entry) (i : ℕ) → i < length entries → value_at texts (entries ++ more) i ≡ value_at texts entries i
   pub texts_grow : (before after : Source → List ℕ) (entries : List Entry) → Grown before after → AllInside before entries → (i : ℕ) → value_at after entries i ≡ value_at before entries i
+
+-- where the members of a span are those of an ordered map, its keys ascend
+abbrev pub OrderedAscend : Type 0
+OrderedAscend = (texts : Source → List ℕ) (entries : List Entry) (sp : Span) → OrderedMembers (members_of (children (rows_of texts entries) sp)) → Ascending texts entries sp

@@ -1,6 +1,7 @@
 // What stands in a table, over the stores that hold its texts.
 ghost use Rattle.std.specs.Prelude.{◌≡◌, take};
 ghost use Rattle.std.specs.List.{slice_get};
+ghost use Rattle.json_values.specs.Laws.{OrderedAscend};
 ghost use Rattle.json_values.specs.Meaning.{Finds, part_of};
 ghost use Rattle.json_values.specs.Texts.{texts_of};
 
@@ -39,9 +40,12 @@ impl<'a> View<'a> {
         View { entries, ..self }
     }
 
-    // The number of the member of `span` that has the key, by halves: members stand in ascending order of their keys.
+    // The number of the member of `span` that has the key, by halves: members stand in ascending order of their keys,
+    // as they do where the map is ordered.
+    #[tactic(auto, using(crate::proofs::Entries::ascends))]
     pub fn member(self, span: Span, key: &[u8]) -> Option<usize>
-        ensures { Finds (texts_of self.entry.stores) self.entry.entries.now span key.now result }
+        ensures found { Finds (texts_of self.entry.stores) self.entry.entries.now span key.now result }
+        ensures ordered { OrderedAscend }
     {
         let members = span.of(self.entries);
         let i = members

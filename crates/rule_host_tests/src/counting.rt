@@ -1,5 +1,6 @@
 // A layer that counts the executions of the host below it, and means what that host means.
-use rule_host::answer::{Compiled, Outcome};
+use fixed::text::BoundedText;
+use rule_host::answer::{CompileError, Outcome};
 use rule_host::host::RuleHost;
 
 #[derive(Drop)]
@@ -15,7 +16,7 @@ impl<H: RuleHost> RuleHost for Counting<H> {
 
     ghost distinct = { λ s. H.RuleHost.distinct s.below };
 
-    fn compile(&mut self, expression: &[u8]) -> Compiled {
+    fn compile(&mut self, expression: &[u8]) -> Result<usize, CompileError> {
         self.below.compile(expression)
     }
 
@@ -23,7 +24,7 @@ impl<H: RuleHost> RuleHost for Counting<H> {
         self.below.mentions(program, name)
     }
 
-    fn execute(&mut self, program: usize, image: &[u8]) -> Option<Outcome> {
+    fn execute(&mut self, program: usize, image: &[u8]) -> Option<Outcome<BoundedText>> {
         self.executions = self.executions.saturating_add(1);
         self.below.execute(program, image)
     }

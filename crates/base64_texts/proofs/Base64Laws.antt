@@ -90,32 +90,32 @@ decodes_encoded (x ∷ y ∷ z ∷ rest) h =
 
 one_parts : (o u : Option ℕ) (bytes : List ℕ) → one_by o u ≡ Some bytes
     → (p : ℕ) × (q : ℕ) × (o ≡ Some p) × (u ≡ Some q) × (q % 16 ≡ 0) × (bytes ≡ (p * 4 + q / 16) ∷ [])
-one_parts None u bytes e = let z : ◌≡◌ {A = ℕ} 0 1 = cc in absurd (omega arith)
-one_parts (Some p) None bytes e = let z : ◌≡◌ {A = ℕ} 0 1 = cc in absurd (omega arith)
+one_parts None u bytes e = absurd cc
+one_parts (Some p) None bytes e = absurd cc
 one_parts (Some p) (Some q) bytes e =
     ⊎_elim
     (λ h. let t : eqb (q % 16) 0 ≡ true = eq-eqb (q % 16) 0 h in let g = rw t at e in (p, q, refl, refl, h, cc))
-    (λ h. let t : eqb (q % 16) 0 ≡ false = ne_eqb (q % 16) 0 h in let g = rw t at e in let z : ◌≡◌ {A = ℕ} 0 1 = cc in absurd (omega arith))
+    (λ h. let t : eqb (q % 16) 0 ≡ false = ne_eqb (q % 16) 0 h in let g = rw t at e in absurd cc)
     (cases_eq (q % 16) 0)
 
 two_parts : (o u v : Option ℕ) (bytes : List ℕ) → two_by o u v ≡ Some bytes
     → (p : ℕ) × (q : ℕ) × (r : ℕ) × (o ≡ Some p) × (u ≡ Some q) × (v ≡ Some r) × (r % 4 ≡ 0) × (bytes ≡ (p * 4 + q / 16) ∷ (q % 16 * 16 + r / 4) ∷ [])
-two_parts None u v bytes e = let z : ◌≡◌ {A = ℕ} 0 1 = cc in absurd (omega arith)
-two_parts (Some p) None v bytes e = let z : ◌≡◌ {A = ℕ} 0 1 = cc in absurd (omega arith)
-two_parts (Some p) (Some q) None bytes e = let z : ◌≡◌ {A = ℕ} 0 1 = cc in absurd (omega arith)
+two_parts None u v bytes e = absurd cc
+two_parts (Some p) None v bytes e = absurd cc
+two_parts (Some p) (Some q) None bytes e = absurd cc
 two_parts (Some p) (Some q) (Some r) bytes e =
     ⊎_elim
     (λ h. let t : eqb (r % 4) 0 ≡ true = eq-eqb (r % 4) 0 h in let g = rw t at e in (p, q, r, refl, refl, refl, h, cc))
-    (λ h. let t : eqb (r % 4) 0 ≡ false = ne_eqb (r % 4) 0 h in let g = rw t at e in let z : ◌≡◌ {A = ℕ} 0 1 = cc in absurd (omega arith))
+    (λ h. let t : eqb (r % 4) 0 ≡ false = ne_eqb (r % 4) 0 h in let g = rw t at e in absurd cc)
     (cases_eq (r % 4) 0)
 
 three_parts : (o u v w : Option ℕ) (bytes : List ℕ) → three_by o u v w ≡ Some bytes
     → (p : ℕ) × (q : ℕ) × (r : ℕ) × (s : ℕ) × (o ≡ Some p) × (u ≡ Some q) × (v ≡ Some r) × (w ≡ Some s)
     × (bytes ≡ (p * 4 + q / 16) ∷ (q % 16 * 16 + r / 4) ∷ (r % 4 * 64 + s) ∷ [])
-three_parts None u v w bytes e = let z : ◌≡◌ {A = ℕ} 0 1 = cc in absurd (omega arith)
-three_parts (Some p) None v w bytes e = let z : ◌≡◌ {A = ℕ} 0 1 = cc in absurd (omega arith)
-three_parts (Some p) (Some q) None w bytes e = let z : ◌≡◌ {A = ℕ} 0 1 = cc in absurd (omega arith)
-three_parts (Some p) (Some q) (Some r) None bytes e = let z : ◌≡◌ {A = ℕ} 0 1 = cc in absurd (omega arith)
+three_parts None u v w bytes e = absurd cc
+three_parts (Some p) None v w bytes e = absurd cc
+three_parts (Some p) (Some q) None w bytes e = absurd cc
+three_parts (Some p) (Some q) (Some r) None bytes e = absurd cc
 three_parts (Some p) (Some q) (Some r) (Some s) bytes e = (p, q, r, s, refl, refl, refl, refl, cc)
 
 one_signs : (a b p q : ℕ) → (sign p ≡ a) × (p < 64) → (sign q ≡ b) × (q < 64) → q % 16 ≡ 0
@@ -184,8 +184,8 @@ front_signs true a b c d bytes e = last_signs a b c d bytes (cases_eq d pad) (ca
 
 then-parts : (o m : Option (List ℕ)) (bytes : List ℕ) → then o (λ front. option_map (λ rest. front ++ rest) m) ≡ Some bytes
     → (front : List ℕ) × (more : List ℕ) × (o ≡ Some front) × (m ≡ Some more) × (bytes ≡ front ++ more)
-then-parts None m bytes e = let z : ◌≡◌ {A = ℕ} 0 1 = cc in absurd (omega arith)
-then-parts (Some front) None bytes e = let z : ◌≡◌ {A = ℕ} 0 1 = cc in absurd (omega arith)
+then-parts None m bytes e = absurd cc
+then-parts (Some front) None bytes e = absurd cc
 then-parts (Some front) (Some more) bytes e = (front, more, refl, refl, cc)
 
 text_of : (a b c d : ℕ) (rest front more : List ℕ) → Front (ended rest) a b c d front → decoded rest ≡ Some more → encode more ≡ rest
@@ -199,9 +199,9 @@ text_of a b c d (x ∷ rest) front more (inr g) e f = g more ∙ rw f refl
 encodes_decoded : (text bytes : List ℕ) → decoded text ≡ Some bytes → (encode bytes ≡ text) × Bytes bytes
 unfolding decoded encode
 encodes_decoded [] bytes e = let n : bytes ≡ [] = cc in rw n (refl, tt)
-encodes_decoded (a ∷ []) bytes e = let z : ◌≡◌ {A = ℕ} 0 1 = cc in absurd (omega arith)
-encodes_decoded (a ∷ b ∷ []) bytes e = let z : ◌≡◌ {A = ℕ} 0 1 = cc in absurd (omega arith)
-encodes_decoded (a ∷ b ∷ c ∷ []) bytes e = let z : ◌≡◌ {A = ℕ} 0 1 = cc in absurd (omega arith)
+encodes_decoded (a ∷ []) bytes e = absurd cc
+encodes_decoded (a ∷ b ∷ []) bytes e = absurd cc
+encodes_decoded (a ∷ b ∷ c ∷ []) bytes e = absurd cc
 encodes_decoded (a ∷ b ∷ c ∷ d ∷ rest) bytes e =
     let (front, more, i, j, k) = then-parts (quantum (ended rest) a b c d) (decoded rest) bytes e in
     let (t, all) = encodes_decoded rest more j in

@@ -50,4 +50,4 @@ sign-sextet s v e = let h = below s v e in (sign_ranged v h ∙ sextet_ranged s 
 pub sign_not_pad : (v : ℕ) → v < 64 → sign v ≡ pad → ⊥
 sign_not_pad v h e =
     let some : Some v ≡ sextet pad = sym (sextet-sign v h) ∙ ap sextet e in
-    let z : ◌≡◌ {A = ℕ} 0 1 = cc in omega arith
+    cc

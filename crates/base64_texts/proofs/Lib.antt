@@ -1,5 +1,4 @@
 pub mod Base64Cases
 pub mod Base64Laws
-pub mod Base64Puts
 pub mod Base64Signs
 pub mod Base64Steps

@@ -4,3 +4,6 @@
 pub mod base64;
 
 pub use base64::{DecodeError, decode, decoded_len};
+
+#[cfg(test)]
+mod tests;

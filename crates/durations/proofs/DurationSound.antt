@@ -108,7 +108,7 @@ fraction_sound s (b ∷ rest) w p d e = point_by s rest b w p d (eqb b 46) refl 
 
 begins_splits : (p s : List ℕ) → begins p s ≡ true → s ≡ p ++ drop (length p) s
 begins_splits [] s e = refl
-begins_splits (x ∷ p) [] e = let z : ◌≡◌ {A = ℕ} 0 1 = cc in absurd (omega arith)
+begins_splits (x ∷ p) [] e = absurd cc
 begins_splits (x ∷ p) (y ∷ s) e =
     let b = and_parts (eqb x y) (begins p s) e in
     ap (λ n. n ∷ s) (sym (eqb-true x y b.0)) ∙ ap (λ t. x ∷ t) (begins_splits p s b.1)

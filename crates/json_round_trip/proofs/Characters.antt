@@ -1,10 +1,10 @@
 -- A character of a string is a character of a text, however it was escaped, and the text escapes it no longer.
-use Rattle.std.proofs.Common.{◌≡◌, ℕ, ◌+◌, ◌/◌, ◌<◌, ◌≤◌, Bool, true, false, cond, not, ◌&&◌, ◌||◌, eqb, ltb, leb, ◌⊎◌, List, [], ◌∷◌, ◌++◌, length, Some, None, refl, ap, subst, inl, inr, ⊎_elim, append-nil, arith}
+use Rattle.std.proofs.Common.{◌≡◌, ℕ, ◌+◌, ◌/◌, ◌<◌, ◌≤◌, Bool, true, false, cond, not, ◌&&◌, ◌||◌, eqb, ltb, leb, ◌⊎◌, List, [], ◌∷◌, ◌++◌, length, Some, None, Option, refl, ap, subst, inl, inr, ⊎_elim, append-nil, arith}
 use lib.Utf8.{encode, next}
 use Rattle.json_scanner.specs.Grammar.{Character, Chars, CodeUnit, Raw, hex, hexed, low, pair, second, simple, surrogate, tail}
-use Rattle.json_writer.proofs.Back.{joined_append, raw_kept}
+use Rattle.json_writer.proofs.Back.{joined_append, raw_kept, unit_escape-length}
 use Rattle.json_writer.specs.Back.{Letter, Letters, marked}
-use Rattle.json_writer.specs.Compact.{escaped, short_letter, unit_escape}
+use Rattle.json_writer.specs.Compact.{control_escape, escaped, short_letter}
 use Rattle.std.proofs.lemmas.List.{length-append}
 use Rattle.std.proofs.lemmas.Bool.{and_cases, and_from, cases_Bool, cond_both, eqb-true, le-leb, leb-false, lt-ltb, ltb-false, ltb-true, not_from_false, or_parts}
 use Rattle.std.proofs.lemmas.Bool.Decides.{nat_tests}
@@ -22,15 +22,18 @@ raw_short (Raw.two a b l t) = omega arith
 raw_short (Raw.three a b c l s t) = omega arith
 raw_short (Raw.four a b c d l s t u) = omega arith
 
+control_short : (b : ℕ) (letter : Option ℕ) → length (control_escape b letter) ≤ 6
+control_short b None = omega (arith, unit_escape-length b)
+control_short b (Some letter) = omega arith
+
 escaped_short : (b : ℕ) → length (escaped b) ≤ 6
-escaped_short b = by (ltb b 32) (eqb (short_letter b) 0) (eqb b 34) (eqb b 92)
+escaped_short b = by (ltb b 32) (eqb b 34) (eqb b 92)
   where
-    by : (p z q r : Bool) → length (cond p (cond z (unit_escape b) (92 ∷ short_letter b ∷ [])) (cond q (92 ∷ 34 ∷ []) (cond r (92 ∷ 92 ∷ []) (b ∷ [])))) ≤ 6
-    by true true q r = omega arith
-    by true false q r = omega arith
-    by false z true r = omega arith
-    by false z false true = omega arith
-    by false z false false = omega arith
+    by : (p q r : Bool) → length (cond p (control_escape b (short_letter b)) (cond q (92 ∷ 34 ∷ []) (cond r (92 ∷ 92 ∷ []) (b ∷ [])))) ≤ 6
+    by true q r = control_short b (short_letter b)
+    by false true r = omega arith
+    by false false true = omega arith
+    by false false false = omega arith
 
 letter_short : {w : List ℕ} → Letter w → length (flat_map escaped w) ≤ 6
 letter_short (Letter.raw r) = omega (arith, ap length (raw_kept r), raw_short r)

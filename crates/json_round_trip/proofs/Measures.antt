@@ -8,7 +8,7 @@ use Rattle.json_round_trip.specs.Readable.{Readable, ReadableItems, ReadableMemb
 use Rattle.json_writer.specs.Back.{Letters}
 use Rattle.json_writer.specs.Compact.{compact, items_text, members_text, more_items, more_members, quoted}
 use Rattle.order.specs.Bytes.{compare_bytes}
-use Rattle.order.specs.Keyed.{bytes_preorder}
+use Rattle.order.specs.Keyed.{compare_bytes_total}
 use Rattle.std.proofs.lemmas.List.{length-append}
 use Rattle.std.specs.Ordering.{ordering_reverse}
 
@@ -107,4 +107,4 @@ entered_readable r (s ∷ ss) l v h = either (compare_bytes r.key s.key) refl (e
     either : (o : Ordering) → compare_bytes r.key s.key ≡ o → ReadableMembers (members_of (entered r ss)) → ReadableMembers (members_of (entered_by o r s ss (entered r ss)))
     either Less e i = ((l, (e, before_all r.key s.key (members_of ss) e h.0.1)), (v, h))
     either Equal e i = ((l, before_same r.key s.key (members_of ss) e h.0.1), (v, h.1.1))
-    either Greater e i = ((h.0.0, entered_before s.key r ss (bytes_preorder.flip s.key r.key ∙ ap ordering_reverse e) h.0.1), (h.1.0, i))
+    either Greater e i = ((h.0.0, entered_before s.key r ss (compare_bytes_total.antisymm s.key r.key ∙ ap ordering_reverse e) h.0.1), (h.1.0, i))

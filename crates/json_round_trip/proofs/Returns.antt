@@ -9,7 +9,7 @@ use Rattle.json_scanner.specs.Grammar.{Trees, nil, snoc, over, overs, over_membe
 use Rattle.json_scanner.specs.Grammar as g
 use Rattle.json_writer.specs.Back.{Small, Writable, WritableItems, WritableMembers, members_from, number_tree, tree_of, trees_from}
 use Rattle.order.specs.Bytes.{compare_bytes}
-use Rattle.order.specs.Keyed.{bytes_preorder}
+use Rattle.order.specs.Keyed.{compare_bytes_total}
 use Rattle.std.proofs.ByRecursion.{All-push, All-weaker}
 use Rattle.std.proofs.lemmas.Bool.{cond-false, cond-true, le-leb, le-ltb, lt-leb, lt-ltb, ne_eqb, or_from}
 use Rattle.std.specs.Ordering.{ordering_reverse}
@@ -58,7 +58,7 @@ entered-last : (r : Row) (rows : List Row) → All (λ s. compare_bytes s.key r.
 unfolding entered
 entered-last r [] a = refl
 entered-last r (s ∷ ss) a =
-    ap (λ o. entered_by o r s ss (entered r ss)) (bytes_preorder.flip r.key s.key ∙ ap ordering_reverse a.0) ∙ ap (λ zs. s ∷ zs) (entered-last r ss a.1)
+    ap (λ o. entered_by o r s ss (entered r ss)) (compare_bytes_total.antisymm r.key s.key ∙ ap ordering_reverse a.0) ∙ ap (λ zs. s ∷ zs) (entered-last r ss a.1)
 
 -- ---- the value
 

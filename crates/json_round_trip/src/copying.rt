@@ -1,20 +1,19 @@
 // A value of one table, written and read into another.
-ghost use Rattle.fixed.specs.Listed.{listed};
-ghost use Rattle.json_values.specs.Meaning.{value_at};
-ghost use Rattle.json_values.specs.Stored.{texts_of, written};
+ghost use Rattle.json_values.specs.Texts.{viewed};
 ghost use Rattle.json_round_trip.specs.Copied.{Copies, Leaves, no_memory, refused};
 ghost use Rattle.std.specs.Prelude.{◌≡◌};
 
 use json_reader::Reader;
 use json_reader::fault::Fault;
+use json_values::View;
 use json_values::parts::Source;
 use json_values::store::Store;
 use json_values::table::Table;
-use json_writer::{View, push_compact};
+use json_writer::push_compact;
 use std::alloc::{AllocError, Global};
 
 // There is no memory for the text, or the text is refused.
-#[derive(Clone, Copy)]
+#[derive(Clone, Copy, PartialEq, Eq, Debug)]
 pub enum CopyError {
     NoMemory,
     Refused(Fault),
@@ -46,11 +45,10 @@ pub fn copy_value(
     store: &mut Store,
     table: &mut Table,
 ) -> Result<usize, CopyError>
-    ensures leaves { Leaves source (value_at (texts_of view.entry.schema.now view.entry.«record».now view.entry.older.now) view.entry.entries.now k) (written store.old) (listed table.old) result (written store.new) (listed table.new) }
-    ensures copies { Copies source (value_at (texts_of view.entry.schema.now view.entry.«record».now view.entry.older.now) view.entry.entries.now k) (written store.old) (listed table.old) result (written store.new) (listed table.new) }
+    ensures leaves { Leaves source (viewed view.entry k) store.old table.old result store.new table.new }
+    ensures copies { Copies source (viewed view.entry k) store.old table.old result store.new table.new }
 {
     let mut text = Vec::new(heap);
-    push_compact(heap, view, k, &mut text)?;
-    let number = reader.read(text.as_slice(), source, store, table)?;
-    Ok(number)
+    push_compact(view, k, &mut text)?;
+    Ok(reader.read(&text, source, store, table)?)
 }

@@ -4,7 +4,8 @@ use json_reader::Reader;
 use json_values::parts::Source;
 use json_values::store::Store;
 use json_values::table::Table;
-use json_writer::{View, push_compact};
+use json_values::{Stores, View};
+use json_writer::push_compact;
 use std::test::Fail;
 
 // Spaces, escapes, a surrogate pair, the bounds of integers and a repeated key.
@@ -23,9 +24,11 @@ fn read_copied_and_written(rt: HostRuntime) -> Result<(), Fail> {
     let mut older = Store::new(heap)?;
     let mut copies: Table = Table::new(heap)?;
     let view = View {
-        schema: &schema,
-        record: &record,
-        older: &schema,
+        stores: Stores {
+            schema: &schema,
+            record: &record,
+            older: &schema,
+        },
         entries: table.as_slice(),
     };
     let Ok(copy) = copy_value(
@@ -40,13 +43,15 @@ fn read_copied_and_written(rt: HostRuntime) -> Result<(), Fail> {
         return Err(Fail::new("not copied"));
     };
     let copied = View {
-        schema: &schema,
-        record: &schema,
-        older: &older,
+        stores: Stores {
+            schema: &schema,
+            record: &schema,
+            older: &older,
+        },
         entries: copies.as_slice(),
     };
     let mut out = Vec::new(heap);
-    push_compact(heap, copied, copy, &mut out)?;
+    push_compact(copied, copy, &mut out)?;
     assert_eq!(rt;
         out.as_slice(),
         b"{\"a\":\"\xc3\xa4/\\n\xf0\x9f\x98\x80\",\"b\":[-9223372036854775808,18446744073709551615,true,{}]}".as_slice()

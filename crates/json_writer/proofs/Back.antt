@@ -1,5 +1,5 @@
 -- What is written follows the grammar, production by production.
-use Rattle.std.proofs.Common.{◌≡◌, ℕ, suc, ◌+◌, ◌-◌, ◌*◌, ◌/◌, ◌%◌, ◌^◌, ◌<◌, ◌≤◌, Bool, true, false, cond, not, ◌&&◌, ◌||◌, eqb, ltb, leb, List, [], ◌∷◌, ◌++◌, ℤ, pos, negsuc, decimal, Some, None, slice_index, sym, refl, ap, ◌∙◌, subst, append_assoc, append-nil, arith}
+use Rattle.std.proofs.Common.{◌≡◌, ℕ, suc, ◌+◌, ◌-◌, ◌*◌, ◌/◌, ◌%◌, ◌^◌, ◌<◌, ◌≤◌, Bool, true, false, cond, not, ◌&&◌, ◌||◌, eqb, ltb, leb, List, [], ◌∷◌, ◌++◌, length, ℤ, pos, negsuc, decimal, Some, None, slice_index, sym, refl, ap, ◌∙◌, subst, append_assoc, append-nil, arith}
 use lib.Utf8.{encode}
 use Rattle.std.specs.List.{flat_map}
 use Rattle.std.specs.Char.{is_ascii_digit}
@@ -54,6 +54,10 @@ unfolding is_digit
 hex_back n h =
     let p = and_parts (g.hex (slice_index lower_digits n)) _ (agree_below_at is_digit (λ _. true) 16 n refl h) in
     (p.0, eqb-true _ n p.1)
+
+pub unit_escape-length : (b : ℕ) → length (unit_escape b) ≡ 6
+unfolding encode_with
+unit_escape-length b = refl
 
 unit_is : (b : ℕ) → b < 32 → g.unit 0 0 (b / 16) (b % 16) ≡ b
 unit_is b h = omega arith

@@ -51,6 +51,7 @@ impl BookMaker {
     }
 
     // The host of these rows. It has accepted nothing yet.
+    #[tactic(auto, using(crate::proofs::Searches::book_laws))]
     pub fn finish(self) -> AnswerBook
         ensures rows { result.book ≡ self }
         ensures accepted { expressions_at result.book result.accepted ≡ [] }

@@ -1,8 +1,8 @@
-use Rattle.std.proofs.Common.{ℕ, ◌<◌, ◌≤◌, ltb, length, sym, ap, ◌∙◌, arith}
+use Rattle.std.proofs.Common.{◌<◌, length, arith}
 use Rattle.std.proofs.lemmas.List.{length-map}
 use Rattle.rule_host.specs.Compiling.{total}
 use Rattle.rule_host.specs.Rows.{expression_at, expressions_at}
-use Rattle.rule_host.proofs.Room.{room_left, no_room_left}
+use Rattle.rule_host.proofs.Room.{room_left}
 use Rattle.rule_host.proofs.answer_book.AnswerBook.has_room.Goals as goal
 
 pub returns-then-len-lt-EXPRESSIONS : goal.returns-then-len-lt-EXPRESSIONS
@@ -11,11 +11,3 @@ returns-then-len-lt-EXPRESSIONS c =
     let acc = expressions_at a.book a.accepted in
     let l : length acc < 512 = omega (arith, length-map a.accepted (expression_at a.book), c.len.ensures.value, c.if-len-lt-EXPRESSIONS.true) in
     room_left (length acc) 512 (total acc) a.used (length c.args.expression.now) 65535 l a.counts a.small
-
-pub returns-else-len-lt-EXPRESSIONS : goal.returns-else-len-lt-EXPRESSIONS
-returns-else-len-lt-EXPRESSIONS c =
-    let a = c.args.self.now in
-    let acc = expressions_at a.book a.accepted in
-    let n = c.len.ensures.value ∙ sym (length-map a.accepted (expression_at a.book)) in
-    let l : 512 ≤ length acc = omega (arith, n, c.if-len-lt-EXPRESSIONS.false) in
-    ap (λ (k : ℕ). ltb k 512) n ∙ no_room_left (length acc) 512 _ l

@@ -12,22 +12,11 @@ use Rattle.json_scanner.specs.declared.modes.Container.{Container}
 use Rattle.json_scanner.specs.declared.modes.Container.TheVariants as container
 use Rattle.json_scanner.specs.declared.modes.Fault.{Fault}
 use Rattle.json_scanner.specs.declared.modes.Step.{Step}
+use Rattle.json_scanner.proofs.Turns.{left_ok, left_err}
 use Rattle.json_reader.specs.Building.{Built, acted, built, building, closed_in, ended_with, moved_in}
 use Rattle.json_reader.specs.Sifted.{added, picked, sifted}
 use Rattle.json_reader.specs.declared.builder.Open.{Open}
 use Rattle.std.proofs.lemmas.List.{at_drop_more, at_drop_all, take-append-le}
-
-left_ok : (c d : Control) (s : Step) (t : Result (Control × Step) Fault) → (d, Ok s) ≡ left_with c t → t ≡ Ok (d, s)
-left_ok c d s (Ok x) e =
-    let p : d ≡ x.0 = ap (λ (z : Control × Result Step Fault). z.0) e in
-    let o : Ok s ≡ Ok x.1 = ap (λ (z : Control × Result Step Fault). z.1) e in
-    let q : s ≡ x.1 = cc in
-    λ i. Ok (sym p i, sym q i)
-left_ok c d s (Err f) e = let o : Ok s ≡ Err f = ap (λ (z : Control × Result Step Fault). z.1) e in absurd (let z : ◌≡◌ {A = ℕ} 0 1 = cc in omega arith)
-
-left_err : (c d : Control) (f : Fault) (t : Result (Control × Step) Fault) → (d, Err f) ≡ left_with c t → t ≡ Err f
-left_err c d f (Ok x) e = let o : Err f ≡ Ok x.1 = ap (λ (z : Control × Result Step Fault). z.1) e in absurd (let z : ◌≡◌ {A = ℕ} 0 1 = cc in omega arith)
-left_err c d f (Err g) e = let o : ◌≡◌ {A = Result Step Fault} (Err f) (Err g) = ap (λ (z : Control × Result Step Fault). z.1) e in let p : f ≡ g = cc in ap Err (sym p)
 
 module _ (source : Source) (s : List ℕ) (i : ℕ) (c d : Control) (m : Built) (lt : i < length s) where
   pub building-next : (x : Step) → (d, Ok x) ≡ left_with c (turned i c (get_or s i 0)) → building source c i (drop i s) m ≡ building source d (i + 1) (drop (i + 1) s) (built source i x m)

@@ -9,6 +9,7 @@ use Rattle.json_values.specs.Meaning.{Row, no_row, part_of, children, meaning, r
 use Rattle.json_scanner.specs.Grammar.{Tree, Members}
 use Rattle.json_scanner.specs.Machine.{Frame, bare, sole, items, fields, field, kind, put}
 use Rattle.json_scanner.specs.declared.modes.Container.{Container}
+use Rattle.json_scanner.proofs.Bridge.{kind-put}
 use Rattle.json_reader.proofs.Frames.{raw_rows, frame_rows, all_rows, frame_key, Ready}
 use Rattle.json_reader.specs.Building.{no_key}
 use Rattle.json_reader.specs.Values.{value_of, item_rows}
@@ -77,13 +78,6 @@ matches_kind source w [] f f' (g ∷ gs) e h = h
 matches_kind source w (o ∷ os) f f' [] e h = h
 matches_kind source w (o ∷ os) f f' (g ∷ gs) e h = (h.0 ∙ e, h.1, h.2, h.3)
 
-pub put-kind : (f : Frame) (v : Tree) → kind f ≡ kind (put f v)
-put-kind bare v = refl
-put-kind (sole u) v = refl
-put-kind (items ts) v = refl
-put-kind (fields ms) v = refl
-put-kind (field ms k) v = refl
-
 put_rows : (f : Frame) (gs : List Frame) (v : Tree) → Ready f gs → all_rows (put f v) gs ≡ all_rows f gs ++ record { key = frame_key f; value = value_of v } ∷ []
 unfolding item_rows raw_rows
 put_rows bare [] v h = refl
@@ -109,7 +103,7 @@ core_put {source} {w} {t} {ps} {os} {k} {f} {gs} x place v r means c = record {
       ∙ ((λ i. c.rows texts ov later i ++ record { key = c.key texts ov i; value = means texts ov later i } ∷ [])
       ∙ sym (put_rows f gs v r));
   key = λ texts ov. put_key f gs v r;
-  opens = matches_kind source w (reverse os) f (put f v) gs (put-kind f v) c.opens;
+  opens = matches_kind source w (reverse os) f (put f v) gs (sym (kind-put f v)) c.opens;
 }
 
 -- ---- a container opens

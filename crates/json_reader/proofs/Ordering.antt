@@ -59,19 +59,19 @@ number_ordered false n = either (ltb n (2 ^ 63))
 mutual
   unfolding value_of
 
-  pub value-ordered : ReadsOrdered
-  value-ordered written.null = tt
-  value-ordered (written.bool b) = tt
-  value-ordered (written.number minus n) = number_ordered minus n
-  value-ordered written.real = tt
-  value-ordered (written.text cs) = tt
-  value-ordered (written.list ts) = items_ordered ts
-  value-ordered (written.object ms) = members-ordered ms
+  pub values_ordered : ReadsOrdered
+  values_ordered written.null = tt
+  values_ordered (written.bool b) = tt
+  values_ordered (written.number minus n) = number_ordered minus n
+  values_ordered written.real = tt
+  values_ordered (written.text cs) = tt
+  values_ordered (written.list ts) = items_ordered ts
+  values_ordered (written.object ms) = members-ordered ms
 
   pub items_ordered : (ts : Trees) → OrderedItems (items_of (item_rows ts))
   items_ordered written.nil = tt
-  items_ordered (written.snoc ts v) = pushed_ordered (item_rows ts) (record { key = []; value = value_of v }) (items_ordered ts) (value-ordered v)
+  items_ordered (written.snoc ts v) = pushed_ordered (item_rows ts) (record { key = []; value = value_of v }) (items_ordered ts) (values_ordered v)
 
   pub members-ordered : (ms : Members) → OrderedMembers (members_of (member_rows ms))
   members-ordered written.none = tt
-  members-ordered (written.with ms k v) = entered-ordered (record { key = k; value = value_of v }) (member_rows ms) (value-ordered v) (members-ordered ms)
+  members-ordered (written.with ms k v) = entered-ordered (record { key = k; value = value_of v }) (member_rows ms) (values_ordered v) (members-ordered ms)

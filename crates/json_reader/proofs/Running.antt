@@ -4,7 +4,6 @@ use Rattle.json_values.specs.declared.parts.Source.{Source}
 use Rattle.json_values.specs.declared.table.Entry.{Entry}
 use Rattle.json_values.specs.Meaning.{Row, no_row, meaning, row_of, rows_of}
 use Rattle.json_values.specs.Value as value
-use Rattle.json_scanner.proofs.Cases.{by_cond}
 use Rattle.json_scanner.proofs.Roomy.{moved-roomy, Roomy}
 use Rattle.json_scanner.specs.Grammar.{Tree}
 use Rattle.json_scanner.specs.Grammar as written
@@ -22,54 +21,15 @@ use Rattle.json_scanner.specs.declared.modes.Mode.TheVariants as mode
 use Rattle.json_scanner.specs.declared.modes.Number.TheVariants as number
 use Rattle.json_scanner.specs.declared.modes.Numeral.{Numeral}
 use Rattle.json_scanner.specs.declared.modes.Ready.{Ready as Readied}
-use Rattle.json_reader.proofs.Cores.{Over, Means, put-kind, core_length}
+use Rattle.json_reader.proofs.Cores.{Over, Means, core_length}
 use Rattle.json_reader.proofs.Frames.{all_rows, Ready, Done, Fit, Sized}
 use Rattle.json_reader.proofs.Holding.{Holds, put_holds, perform_holds}
 use Rattle.json_reader.proofs.Turning.{Good, moved_good}
 use Rattle.json_reader.specs.Building.{Built, acted, built, building, ended_with, number_cell}
 use Rattle.json_reader.specs.Values.{value_of}
-use Rattle.std.proofs.lemmas.Bool.{cond-true, le-leb, leb-false}
+use Rattle.std.proofs.lemmas.Bool.{cond_both, cond-true, le-leb, leb-false}
+use Rattle.json_scanner.proofs.Bridge.{kinds_number, tracks, made as held_as}
 use Rattle.std.proofs.lemmas.List.{append-nil}
-
--- ---- the scanner's part of a state
-
-kinds-put : (f : Frame) (v : Tree) (gs : List Frame) → kinds (put f v) gs ≡ kinds f gs
-kinds-put f v [] = refl
-kinds-put f v (g ∷ gs) = ap (λ k. k ∷ kinds g gs) (sym (put-kind f v))
-
-kinds_number : (k : Option Numeral) (f : Frame) (gs : List Frame) → kinds (with_number k f) gs ≡ kinds f gs
-kinds_number None f gs = refl
-kinds_number (Some k) f gs = kinds-put f (written.number k.minus k.size) gs
-
-naming-kind : (f : Frame) (k : List ℕ) → kind f ≡ kind (naming f k)
-naming-kind bare k = refl
-naming-kind (sole v) k = refl
-naming-kind (items ts) k = refl
-naming-kind (fields ms) k = refl
-naming-kind (field ms j) k = refl
-
-kinds-naming : (f : Frame) (k : List ℕ) (gs : List Frame) → kinds (naming f k) gs ≡ kinds f gs
-kinds-naming f k [] = refl
-kinds-naming f k (g ∷ gs) = ap (λ c. c ∷ kinds g gs) (sym (naming-kind f k))
-
-with_around : (n : Mode) (vs : ℕ) (cs ds : List Container) → cs ≡ ds → ◌≡◌ {A = Control} (record { mode = n; around = cs; values = vs }) (record { mode = n; around = ds; values = vs })
-with_around n vs cs ds e = λ i. record { mode = n; around = e i; values = vs }
-
-close_control : (n : Mode) (vs : ℕ) (cs : List ℕ) (f : Frame) (gs : List Frame) → control (closed n vs cs f gs) ≡ record { mode = n; around = arranged act.Close (kinds f gs); values = vs }
-close_control n vs cs f [] = refl
-close_control n vs cs f (g ∷ gs) = with_around n vs (kinds (put g (wrapped f)) gs) (kinds g gs) (kinds-put g (wrapped f) gs)
-
-act_control : (x : Act) (n : Mode) (st : State) → control (performed x n st) ≡ record { mode = n; around = arranged x (kinds st.top st.below); values = counted x st.values }
-act_control act.Stay n st = refl
-act_control act.Begin n st = refl
-act_control (act.Open container.List) n st = refl
-act_control (act.Open container.Object) n st = refl
-act_control act.Close n st = close_control n st.values st.chars st.top st.below
-act_control (act.Add p) n st = refl
-act_control act.Key n st = with_around n st.values (kinds (naming st.top st.chars) st.below) (kinds st.top st.below) (kinds-naming st.top st.chars st.below)
-act_control act.Text n st = with_around n st.values (kinds (put st.top (written.text st.chars)) st.below) (kinds st.top st.below) (kinds-put st.top (written.text st.chars) st.below)
-act_control act.Null n st = with_around n st.values (kinds (put st.top written.null) st.below) (kinds st.top st.below) (kinds-put st.top written.null st.below)
-act_control (act.Bool b) n st = with_around n st.values (kinds (put st.top (written.bool b)) st.below) (kinds st.top st.below) (kinds-put st.top (written.bool b) st.below)
 
 -- ---- the end of a number
 
@@ -91,7 +51,7 @@ module _ (source : Source) (a b i : ℕ) (m : Built) (st : State) (h : Holds sou
   Prepared (Err f) = Unit {0}
 
   whole-holds : (g : Bool) (n from : ℕ) → Ready st.top st.below → Sized (figures.Whole g n) → Prepared (counted_in g n from st.values)
-  whole-holds g n from ready sized = by_cond Prepared (leb 4096 st.values) _ _ (λ _. tt)
+  whole-holds g n from ready sized = cond_both (leb 4096 st.values) _ _ Prepared (λ _. tt)
       (λ e.
       put_holds h (number_cell (fitted g n)) from (written.number g n) m.notes.begun st.chars (st.values + 1) i mode.After ready (number_means source m.text m.table g n sized) h.begun h.chars (omega (arith, h.counts)) (omega (arith, leb-false 4096 st.values e)) (omega arith) refl)
 
@@ -120,7 +80,7 @@ module _ (source : Source) (a b i : ℕ) (m : Built) (st : State) (h : Holds sou
   settled-holds = settled_at st.mode refl h.fit
 
   pub readied-holds : (y : ℕ) → Prepared (readied y st.mode st.values)
-  readied-holds y = by_cond Prepared (figure y) _ _ (λ _. same_mode st.mode refl) (λ _. settled-holds)
+  readied-holds y = cond_both (figure y) _ _ Prepared (λ _. same_mode st.mode refl) (λ _. settled-holds)
 
 -- ---- a whole text
 
@@ -188,7 +148,7 @@ module _ (source : Source) (a b : ℕ) (tall : b + 4096 ≤ 8192) where
     where
       by : (x : Result Readied Fault) → Prepared source a b i m st h x
           → Agrees source b (then (then x (λ r. settled_end i r.mode (innermost (kinds st.top st.below)) r.values r.number)) (λ k. Ok (ended_with m k))) (then x (λ r. ended i r.mode (prepared r st)))
-      by (Ok r) p = end_agrees source a b i m r.number r.mode (prepared r st) refl p (kinds st.top st.below) (sym (kinds_number r.number st.top st.below))
+      by (Ok r) p = end_agrees source a b i m r.number r.mode (prepared r st) refl p (kinds st.top st.below) (kinds_number r.number st.top st.below)
       by (Err f) p = refl
 
   module _ (i : ℕ) (s : List ℕ) (next : (m : Built) (st : State) → Holds source a b (i + 1) m st → Agrees source b (building source (control st) (i + 1) s m) (run st (i + 1) s)) (wide : a + i < 65535) where
@@ -196,7 +156,7 @@ module _ (source : Source) (a b : ℕ) (tall : b + 4096 ≤ 8192) where
     move_agrees : (m : Built) (k : Option Numeral) (st : State) (cs : List Container) → cs ≡ kinds st.top st.below → Holds source a b i (ended_with m k) st → (x : Moved) → Good st.mode st.top st.below x → Roomy (surroundings i (kinds st.top st.below) st.values) x
         → Agrees source b (then (then x (λ y. Ok (arrived cs (record { mode = st.mode; values = st.values; number = k }) y))) (λ y. building source y.0 (i + 1) s (built source i y.1 m))) (then (carried x st) (λ z. run z (i + 1) s))
     move_agrees m k st cs e h (Ok y) g r =
-        let c : record { mode = y.mode; around = arranged y.act cs; values = counted y.act st.values } ≡ control (performed y.act y.mode st) = with_around y.mode (counted y.act st.values) (arranged y.act cs) (arranged y.act (kinds st.top st.below)) (ap (arranged y.act) e) ∙ sym (act_control y.act y.mode st) in
+        let c : held_as y.mode (counted y.act st.values) (arranged y.act cs) ≡ control (performed y.act y.mode st) = ap (λ (z : List Container). held_as y.mode (counted y.act st.values) (arranged y.act z)) e ∙ tracks y.act y.mode st in
         subst (λ (z : Control). Agrees source b (building source z (i + 1) s (built source i (record { number = k; act = y.act }) m)) (run (performed y.act y.mode st) (i + 1) s)) (sym c)
         (next (acted source i y.act (ended_with m k)) (performed y.act y.mode st) (perform_holds source a b i (ended_with m k) wide tall st y.act y.mode h g r.0 r.1))
     move_agrees m k st cs e h (Err f) g r = refl
@@ -209,7 +169,7 @@ module _ (source : Source) (a b : ℕ) (tall : b + 4096 ≤ 8192) where
             (then (then x (λ r. stepped i (prepared r st) y)) (λ z. run z (i + 1) s))
         by (Ok r) p =
             let st1 = prepared r st in
-            let e = kinds_number r.number st.top st.below in
+            let e = sym (kinds_number r.number st.top st.below) in
             subst (λ (cs : List Container). Agrees source b (then (then (moved r.mode (surroundings i cs r.values) y) (λ z. Ok (arrived (kinds st.top st.below) r z))) (λ z. building source z.0 (i + 1) s (built source i z.1 m)))
             (then (stepped i st1 y) (λ z. run z (i + 1) s))) e
             (move_agrees m r.number st1 (kinds st.top st.below) (sym e) p (moved r.mode (surroundings i (kinds st1.top st1.below) r.values) y)

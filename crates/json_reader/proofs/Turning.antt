@@ -1,6 +1,7 @@
 -- Each move of the scanner fits the frames.
 use Rattle.std.proofs.Common.{◌≡◌, ℕ, ◌+◌, ◌-◌, ◌*◌, ◌^◌, ◌<◌, ◌≤◌, Bool, true, false, ◌&&◌, eqb, leb, List, [], ◌∷◌, Some, None, Ok, Err, Option, Result, refl, arith}
 use Rattle.std.specs.Char.{is_ascii_digit}
+use Rattle.std.proofs.lemmas.Bool.{cond_both, false≢true, leb-false, or_parts}
 use Rattle.std.proofs.lemmas.Bool.Decides.{nat_tests}
 use Rattle.json_scanner.specs.declared.modes.Container.{Container}
 use Rattle.json_scanner.specs.declared.modes.Container.TheVariants as container
@@ -28,7 +29,6 @@ use Rattle.json_scanner.specs.declared.modes.Around.{Around as Surroundings}
 use Rattle.json_scanner.specs.Grammar.{white, hex, hexed, unit, tail, second, plain, lead2, lead3, lead4, simple, power, sign, unfit}
 use Rattle.json_scanner.specs.Bytes.{Moved, Spelling, moved, begun, opening, beginning, keyed, followed, judged, figured, grown, spelled, led, tailed, escaped_by, united, paired, noted, quoted, closing, spelling, letter}
 use Rattle.json_scanner.specs.Machine.{Frame, bare, sole, items, fields, field, kinds, surroundings}
-use Rattle.json_scanner.proofs.Cases.{by_cond, below, never, no_right}
 use Rattle.std.proofs.Math.Utf8.{scalar}
 use Rattle.json_reader.proofs.Frames.{Ready, Listing, Keyed, Named, Done, Closing, Fit, Sized, Quoting, begun_in, credit}
 
@@ -60,25 +60,25 @@ module _ (m : Mode) (f : Frame) (gs : List Frame) where
   Good (Err e) = Unit {0}
 
   opening_good : (a : Surroundings) (n : Mode) (c : Container) → Goes (act.Open c) n → Good (opening a n c)
-  opening_good a n c h = by_cond Good (leb 200 a.depth) _ _ (λ _. tt) (λ _. by_cond Good (leb 4096 a.values) _ _ (λ _. tt) (λ _. h))
+  opening_good a n c h = cond_both (leb 200 a.depth) _ _ Good (λ _. tt) (λ _. cond_both (leb 4096 a.values) _ _ Good (λ _. tt) (λ _. h))
 
   beginning_good : (a : Surroundings) (n : Mode) → Goes act.Begin n → Good (beginning a n)
-  beginning_good a n h = by_cond Good (leb 4096 a.values) _ _ (λ _. tt) (λ _. h)
+  beginning_good a n h = cond_both (leb 4096 a.values) _ _ Good (λ _. tt) (λ _. h)
 
   begun_good : (stay : Mode) (a : Surroundings) (b : ℕ) → Goes act.Stay stay → Ready f gs → Good (begun stay a b)
   begun_good stay a b s h =
-      by_cond Good (white b) _ _ (λ _. s)
-      (λ _. by_cond Good (eqb b 91) _ _ (λ _. opening_good a mode.First container.List (h, refl))
-      (λ _. by_cond Good (eqb b 123) _ _ (λ _. opening_good a mode.FirstKey container.Object (h, refl))
-      (λ _. by_cond Good (eqb b 45) _ _ (λ _. ((h, tt), omega arith, omega arith))
-      (λ _. by_cond Good (is_ascii_digit b) _ _ (λ _. ((h, λ e. never e), omega arith, omega arith))
-      (λ _. by_cond Good (eqb b 34) _ _ (λ _. beginning_good a (mode.Text role.Value inside.Plain) (h, omega arith, omega arith))
-      (λ _. by_cond Good (eqb b 110) _ _ (λ _. beginning_good a (mode.Word word.N) (h, omega arith, omega arith))
-      (λ _. by_cond Good (eqb b 116) _ _ (λ _. beginning_good a (mode.Word word.T) (h, omega arith, omega arith))
-      (λ _. by_cond Good (eqb b 102) _ _ (λ _. beginning_good a (mode.Word word.F) (h, omega arith, omega arith)) (λ _. tt)))))))))
+      cond_both (white b) _ _ Good (λ _. s)
+      (λ _. cond_both (eqb b 91) _ _ Good (λ _. opening_good a mode.First container.List (h, refl))
+      (λ _. cond_both (eqb b 123) _ _ Good (λ _. opening_good a mode.FirstKey container.Object (h, refl))
+      (λ _. cond_both (eqb b 45) _ _ Good (λ _. ((h, tt), omega arith, omega arith))
+      (λ _. cond_both (is_ascii_digit b) _ _ Good (λ _. ((h, λ e. absurd (false≢true e)), omega arith, omega arith))
+      (λ _. cond_both (eqb b 34) _ _ Good (λ _. beginning_good a (mode.Text role.Value inside.Plain) (h, omega arith, omega arith))
+      (λ _. cond_both (eqb b 110) _ _ Good (λ _. beginning_good a (mode.Word word.N) (h, omega arith, omega arith))
+      (λ _. cond_both (eqb b 116) _ _ Good (λ _. beginning_good a (mode.Word word.T) (h, omega arith, omega arith))
+      (λ _. cond_both (eqb b 102) _ _ Good (λ _. beginning_good a (mode.Word word.F) (h, omega arith, omega arith)) (λ _. tt)))))))))
 
   keyed_good : (stay : Mode) (i b : ℕ) → Goes act.Stay stay → Keyed f gs → Good (keyed stay i b)
-  keyed_good stay i b s h = by_cond Good (white b) _ _ (λ _. s) (λ _. by_cond Good (eqb b 34) _ _ (λ _. (h, omega arith, omega arith)) (λ _. tt))
+  keyed_good stay i b s h = cond_both (white b) _ _ Good (λ _. s) (λ _. cond_both (eqb b 34) _ _ Good (λ _. (h, omega arith, omega arith)) (λ _. tt))
 
 word_good : (f : Frame) (gs : List Frame) (w : Word) → Ready f gs → Good (mode.Word w) f gs (Ok (spelling w))
 word_good f gs word.N h = (h, omega arith, omega arith)
@@ -126,9 +126,9 @@ followed_good bare gs values i b h = absurd h
 followed_good (sole v) [] values i b h = tt
 followed_good (sole v) (g ∷ gs) values i b h = absurd h
 followed_good (items ts) [] values i b h = absurd h
-followed_good (items ts) (g ∷ gs) values i b h = by_cond (Good mode.After (items ts) (g ∷ gs)) (eqb b 44) _ _ (λ _. (tt, omega arith, omega arith)) (λ _. by_cond (Good mode.After (items ts) (g ∷ gs)) (eqb b 93) _ _ (λ _. (tt, refl)) (λ _. tt))
+followed_good (items ts) (g ∷ gs) values i b h = cond_both (eqb b 44) _ _ (Good mode.After (items ts) (g ∷ gs)) (λ _. (tt, omega arith, omega arith)) (λ _. cond_both (eqb b 93) _ _ (Good mode.After (items ts) (g ∷ gs)) (λ _. (tt, refl)) (λ _. tt))
 followed_good (fields ms) [] values i b h = absurd h
-followed_good (fields ms) (g ∷ gs) values i b h = by_cond (Good mode.After (fields ms) (g ∷ gs)) (eqb b 44) _ _ (λ _. (tt, omega arith, omega arith)) (λ _. by_cond (Good mode.After (fields ms) (g ∷ gs)) (eqb b 125) _ _ (λ _. (tt, refl)) (λ _. tt))
+followed_good (fields ms) (g ∷ gs) values i b h = cond_both (eqb b 44) _ _ (Good mode.After (fields ms) (g ∷ gs)) (λ _. (tt, omega arith, omega arith)) (λ _. cond_both (eqb b 125) _ _ (Good mode.After (fields ms) (g ∷ gs)) (λ _. (tt, refl)) (λ _. tt))
 followed_good (field ms k) gs values i b h = absurd h
 
 -- ---- inside a string
@@ -139,32 +139,32 @@ module _ (r : Role) (f : Frame) (gs : List Frame) (q : Quoting r f gs) (i : ℕ)
 
   led_good : (b : ℕ) → Well inside.Plain (led b)
   led_good b =
-      by_cond (Well inside.Plain) (plain b) _ _ (λ _. (q, omega arith, omega arith))
-      (λ _. by_cond (Well inside.Plain) (lead2 b) _ _ (λ _. (q, omega arith, omega arith))
-      (λ _. by_cond (Well inside.Plain) (lead3 b) _ _ (λ _. (q, omega arith, omega arith))
-      (λ _. by_cond (Well inside.Plain) (lead4 b) _ _ (λ _. (q, omega arith, omega arith))
-      (λ _. by_cond (Well inside.Plain) (eqb b 92) _ _ (λ _. (q, omega arith, omega arith)) (λ _. tt)))))
+      cond_both (plain b) _ _ (Well inside.Plain) (λ _. (q, omega arith, omega arith))
+      (λ _. cond_both (lead2 b) _ _ (Well inside.Plain) (λ _. (q, omega arith, omega arith))
+      (λ _. cond_both (lead3 b) _ _ (Well inside.Plain) (λ _. (q, omega arith, omega arith))
+      (λ _. cond_both (lead4 b) _ _ (Well inside.Plain) (λ _. (q, omega arith, omega arith))
+      (λ _. cond_both (eqb b 92) _ _ (Well inside.Plain) (λ _. (q, omega arith, omega arith)) (λ _. tt)))))
 
   tailed_good : (t : Tail) (b : ℕ) → Well (inside.Raw t) (tailed t b)
-  tailed_good tails.One b = by_cond (Well (inside.Raw tails.One)) (tail b) _ _ (λ _. (q, omega arith, omega arith)) (λ _. tt)
-  tailed_good tails.Two b = by_cond (Well (inside.Raw tails.Two)) (tail b) _ _ (λ _. (q, omega arith, omega arith)) (λ _. tt)
-  tailed_good (tails.SecondOfThree a) b = by_cond (Well (inside.Raw (tails.SecondOfThree a))) (second a b) _ _ (λ _. (q, omega arith, omega arith)) (λ _. tt)
-  tailed_good (tails.SecondOfFour a) b = by_cond (Well (inside.Raw (tails.SecondOfFour a))) (second a b) _ _ (λ _. (q, omega arith, omega arith)) (λ _. tt)
+  tailed_good tails.One b = cond_both (tail b) _ _ (Well (inside.Raw tails.One)) (λ _. (q, omega arith, omega arith)) (λ _. tt)
+  tailed_good tails.Two b = cond_both (tail b) _ _ (Well (inside.Raw tails.Two)) (λ _. (q, omega arith, omega arith)) (λ _. tt)
+  tailed_good (tails.SecondOfThree a) b = cond_both (second a b) _ _ (Well (inside.Raw (tails.SecondOfThree a))) (λ _. (q, omega arith, omega arith)) (λ _. tt)
+  tailed_good (tails.SecondOfFour a) b = cond_both (second a b) _ _ (Well (inside.Raw (tails.SecondOfFour a))) (λ _. (q, omega arith, omega arith)) (λ _. tt)
 
   escaped_good : (o : Option ℕ) (b : ℕ) → Well inside.Escape (escaped_by o b)
   escaped_good (Some c) b = (q, omega arith, omega arith)
-  escaped_good None b = by_cond (Well inside.Escape) (eqb b 117) _ _ (λ _. (q, omega arith, omega arith)) (λ _. tt)
+  escaped_good None b = cond_both (eqb b 117) _ _ (Well inside.Escape) (λ _. (q, omega arith, omega arith)) (λ _. tt)
 
   united_good : (h : Hex) (d : ℕ) → Well (inside.Unit h) (united h d)
   united_good hexes.Zero d = (q, omega arith, omega arith)
-  united_good (hexes.One a) d = by_cond (Well (inside.Unit (hexes.One a))) (eqb a 13 && leb 12 d) _ _ (λ _. tt) (λ _. (q, omega arith, omega arith))
+  united_good (hexes.One a) d = cond_both (eqb a 13 && leb 12 d) _ _ (Well (inside.Unit (hexes.One a))) (λ _. tt) (λ _. (q, omega arith, omega arith))
   united_good (hexes.Two a b) d = (q, omega arith, omega arith)
   united_good (hexes.Three a b c) d =
-      by_cond (Well (inside.Unit (hexes.Three a b c))) (scalar (unit a b c d)) _ _ (λ _. (q, omega arith, omega arith)) (λ _. (q, omega arith, omega arith))
+      cond_both (scalar (unit a b c d)) _ _ (Well (inside.Unit (hexes.Three a b c))) (λ _. (q, omega arith, omega arith)) (λ _. (q, omega arith, omega arith))
 
   paired_good : (u : ℕ) (h : Hex) (d : ℕ) → Well (inside.Low u h) (paired u h d)
-  paired_good u hexes.Zero d = by_cond (Well (inside.Low u hexes.Zero)) (eqb d 13) _ _ (λ _. (q, omega arith, omega arith)) (λ _. tt)
-  paired_good u (hexes.One a) d = by_cond (Well (inside.Low u (hexes.One a))) (leb 12 d) _ _ (λ _. (q, omega arith, omega arith)) (λ _. tt)
+  paired_good u hexes.Zero d = cond_both (eqb d 13) _ _ (Well (inside.Low u hexes.Zero)) (λ _. (q, omega arith, omega arith)) (λ _. tt)
+  paired_good u (hexes.One a) d = cond_both (leb 12 d) _ _ (Well (inside.Low u (hexes.One a))) (λ _. (q, omega arith, omega arith)) (λ _. tt)
   paired_good u (hexes.Two a b) d = (q, omega arith, omega arith)
   paired_good u (hexes.Three a b c) d = (q, omega arith, omega arith)
 
@@ -172,10 +172,10 @@ module _ (r : Role) (f : Frame) (gs : List Frame) (q : Quoting r f gs) (i : ℕ)
   spelled_good inside.Plain b = led_good b
   spelled_good (inside.Raw t) b = tailed_good t b
   spelled_good inside.Escape b = escaped_good (simple b) b
-  spelled_good (inside.Unit x) b = by_cond (Well (inside.Unit x)) (hex b) _ _ (λ _. united_good x (hexed b)) (λ _. tt)
-  spelled_good (inside.High u) b = by_cond (Well (inside.High u)) (eqb b 92) _ _ (λ _. (q, omega arith, omega arith)) (λ _. tt)
-  spelled_good (inside.HighEscape u) b = by_cond (Well (inside.HighEscape u)) (eqb b 117) _ _ (λ _. (q, omega arith, omega arith)) (λ _. tt)
-  spelled_good (inside.Low u x) b = by_cond (Well (inside.Low u x)) (hex b) _ _ (λ _. paired_good u x (hexed b)) (λ _. tt)
+  spelled_good (inside.Unit x) b = cond_both (hex b) _ _ (Well (inside.Unit x)) (λ _. united_good x (hexed b)) (λ _. tt)
+  spelled_good (inside.High u) b = cond_both (eqb b 92) _ _ (Well (inside.High u)) (λ _. (q, omega arith, omega arith)) (λ _. tt)
+  spelled_good (inside.HighEscape u) b = cond_both (eqb b 117) _ _ (Well (inside.HighEscape u)) (λ _. (q, omega arith, omega arith)) (λ _. tt)
+  spelled_good (inside.Low u x) b = cond_both (hex b) _ _ (Well (inside.Low u x)) (λ _. paired_good u x (hexed b)) (λ _. tt)
 
 quoted_good : (r : Role) (x : Inside) (f : Frame) (gs : List Frame) → Quoting r f gs → Good (mode.Text r x) f gs (Ok (quoted r))
 quoted_good role.Key x f gs q = (q, refl)
@@ -188,37 +188,36 @@ SizedIfOk (Ok g) = Sized g
 SizedIfOk (Err e) = Unit {0}
 
 grown-sized : (minus : Bool) (n d : ℕ) → SizedIfOk (grown minus n d)
-grown-sized minus n d = by_cond SizedIfOk (eqb n 0) _ _ (λ _. tt) (λ _. by_cond SizedIfOk (unfit minus (n * 10 + d)) _ _ (λ _. tt) (λ e. by minus e))
+grown-sized minus n d = cond_both (eqb n 0) _ _ SizedIfOk (λ _. tt) (λ _. cond_both (unfit minus (n * 10 + d)) _ _ SizedIfOk (λ _. tt) (λ e. by minus e))
   where
     by : (g : Bool) → unfit g (n * 10 + d) ≡ false → g ≡ true → n * 10 + d ≤ 2 ^ 63
-    by true e _ = let l : n * 10 + d < 9223372036854775809 = below 9223372036854775809 (n * 10 + d) (no_right (eqb (n * 10 + d) 0) (leb 9223372036854775809 (n * 10 + d)) e) in omega arith
-    by false e h = never h
+    by true e _ = let l : n * 10 + d < 9223372036854775809 = leb-false 9223372036854775809 (n * 10 + d) (or_parts (eqb (n * 10 + d) 0) (leb 9223372036854775809 (n * 10 + d)) e).1 in omega arith
+    by false e h = absurd (false≢true h)
 
 figured-sized : (g : Figures) (b : ℕ) → SizedIfOk (figured g b)
-figured-sized figures.Minus b = by_cond SizedIfOk (eqb b 48) _ _ (λ _. tt) (λ _. by_cond SizedIfOk (is_ascii_digit b) _ _ (λ e _. let l : b ≤ 57 = grind (arith, nat_tests) in omega arith) (λ _. tt))
+figured-sized figures.Minus b = cond_both (eqb b 48) _ _ SizedIfOk (λ _. tt) (λ _. cond_both (is_ascii_digit b) _ _ SizedIfOk (λ e _. let l : b ≤ 57 = grind (arith, nat_tests) in omega arith) (λ _. tt))
 figured-sized (figures.Whole minus n) b =
-    by_cond SizedIfOk (eqb b 46) _ _ (λ _. tt)
-    (λ _. by_cond SizedIfOk (power b) _ _ (λ _. tt) (λ _. by_cond SizedIfOk (is_ascii_digit b) _ _ (λ _. grown-sized minus n (b - 48)) (λ _. tt)))
-figured-sized figures.Point b = by_cond SizedIfOk (is_ascii_digit b) _ _ (λ _. tt) (λ _. tt)
-figured-sized figures.Power b = by_cond SizedIfOk (is_ascii_digit b) _ _ (λ _. tt) (λ _. by_cond SizedIfOk (sign b) _ _ (λ _. tt) (λ _. tt))
-figured-sized figures.Sign b = by_cond SizedIfOk (is_ascii_digit b) _ _ (λ _. tt) (λ _. tt)
+    cond_both (eqb b 46) _ _ SizedIfOk (λ _. tt)
+    (λ _. cond_both (power b) _ _ SizedIfOk (λ _. tt) (λ _. cond_both (is_ascii_digit b) _ _ SizedIfOk (λ _. grown-sized minus n (b - 48)) (λ _. tt)))
+figured-sized figures.Point b = cond_both (is_ascii_digit b) _ _ SizedIfOk (λ _. tt) (λ _. tt)
+figured-sized figures.Power b = cond_both (is_ascii_digit b) _ _ SizedIfOk (λ _. tt) (λ _. cond_both (sign b) _ _ SizedIfOk (λ _. tt) (λ _. tt))
+figured-sized figures.Sign b = cond_both (is_ascii_digit b) _ _ SizedIfOk (λ _. tt) (λ _. tt)
 
 judged_good : (v : Result Figures NumberError) (m : Mode) (f : Frame) (gs : List Frame) (n from i : ℕ) → Ready f gs → SizedIfOk v → Good m f gs (judged v n from i)
 judged_good (Ok g) m f gs n from i h s = ((h, s), omega arith, omega arith)
-judged_good (Err number_error.Unfit) m f gs n from i h s = tt
-judged_good (Err number_error.Broken) m f gs n from i h s = tt
+judged_good (Err e) m f gs n from i h s = tt
 
 pub moved_good : (m : Mode) (f : Frame) (gs : List Frame) (values i b : ℕ) → Fit m f gs → Good m f gs (moved m (surroundings i (kinds f gs) values) b)
 moved_good mode.Want f gs values i b h = begun_good mode.Want f gs mode.Want (surroundings i (kinds f gs) values) b (h, omega arith, omega arith) h
 moved_good mode.First f gs values i b h =
-    by_cond (Good mode.First f gs) (eqb b 93) _ _ (λ _. (listing_closing f gs h, refl))
+    cond_both (eqb b 93) _ _ (Good mode.First f gs) (λ _. (listing_closing f gs h, refl))
     (λ _. begun_good mode.First f gs mode.First (surroundings i (kinds f gs) values) b (h, omega arith, omega arith) (listing_ready f gs h))
-moved_good mode.FirstKey f gs values i b h = by_cond (Good mode.FirstKey f gs) (eqb b 125) _ _ (λ _. (keyed-closing f gs h, refl)) (λ _. keyed_good mode.FirstKey f gs mode.FirstKey i b (h, omega arith, omega arith) h)
+moved_good mode.FirstKey f gs values i b h = cond_both (eqb b 125) _ _ (Good mode.FirstKey f gs) (λ _. (keyed-closing f gs h, refl)) (λ _. keyed_good mode.FirstKey f gs mode.FirstKey i b (h, omega arith, omega arith) h)
 moved_good mode.NextKey f gs values i b h = keyed_good mode.NextKey f gs mode.NextKey i b (h, omega arith, omega arith) h
 moved_good mode.Colon f gs values i b h =
-    by_cond (Good mode.Colon f gs) (white b) _ _ (λ _. (h, omega arith, omega arith))
-    (λ _. by_cond (Good mode.Colon f gs) (eqb b 58) _ _ (λ _. (named_ready f gs h, omega arith, omega arith)) (λ _. tt))
-moved_good mode.After f gs values i b h = by_cond (Good mode.After f gs) (white b) _ _ (λ _. (h, omega arith, omega arith)) (λ _. followed_good f gs values i b h)
-moved_good (mode.Word w) f gs values i b h = by_cond (Good (mode.Word w) f gs) (eqb b (letter w)) _ _ (λ _. word_good f gs w h) (λ _. tt)
+    cond_both (white b) _ _ (Good mode.Colon f gs) (λ _. (h, omega arith, omega arith))
+    (λ _. cond_both (eqb b 58) _ _ (Good mode.Colon f gs) (λ _. (named_ready f gs h, omega arith, omega arith)) (λ _. tt))
+moved_good mode.After f gs values i b h = cond_both (white b) _ _ (Good mode.After f gs) (λ _. (h, omega arith, omega arith)) (λ _. followed_good f gs values i b h)
+moved_good (mode.Word w) f gs values i b h = cond_both (eqb b (letter w)) _ _ (Good (mode.Word w) f gs) (λ _. word_good f gs w h) (λ _. tt)
 moved_good (mode.Number g from) f gs values i b h = judged_good (figured g b) (mode.Number g from) f gs values from i h.0 (figured-sized g b)
-moved_good (mode.Text r x) f gs values i b h = by_cond (Good (mode.Text r x) f gs) (closing x b) _ _ (λ _. quoted_good r x f gs h) (λ _. spelled_good r f gs h i x b)
+moved_good (mode.Text r x) f gs values i b h = cond_both (closing x b) _ _ (Good (mode.Text r x) f gs) (λ _. quoted_good r x f gs h) (λ _. spelled_good r f gs h i x b)

@@ -54,6 +54,7 @@ fn append_piece(store: &mut Store, piece: Piece)
 }
 
 // What is read is ordered.
+#[tactic(auto, using(crate::proofs::Ordering::values_ordered))]
 pub fn reading_orders()
     ensures { ReadsOrdered }
 {}
@@ -168,9 +169,9 @@ impl Reader {
         ensures table { table.new ≡ (outcome source store.old table.old (reading source text.now store.old table.old)).table }
         ensures law { ReadsAs source text.now store.old table.old result store.new table.new }
     {
-        let kept = store.len();
-        let root = table.len();
-        if kept.saturating_add(text.len()) > ROOM || root + VALUES > ENTRIES {
+        let stored = store.len();
+        let entered = table.len();
+        if stored.saturating_add(text.len()) > ROOM || entered + VALUES > ENTRIES {
             return Err(Fault {
                 text: source,
                 flaw: Flaw::Crowded(0),
@@ -182,14 +183,14 @@ impl Reader {
             table,
         };
         if let Err(flaw) = self.build(&mut target, text) {
-            target.store.truncate(kept);
-            target.table.truncate(root);
+            target.store.truncate(stored);
+            target.table.truncate(entered);
             return Err(Fault { text: source, flaw });
         }
-        let number = target.table.len();
+        let root = target.table.len();
         if let Some(entry) = self.builder.pending().first() {
             let _ = target.table.push(*entry);
         }
-        Ok(number)
+        Ok(root)
     }
 }

@@ -3,9 +3,15 @@ use super::Reader;
 use json_values::parts::Source;
 use json_values::store::Store;
 use json_values::table::{Cell, Entry, Table};
+use std::alloc::Global;
 use std::test::Fail;
 
 const HALF: u64 = 0x8000_0000_0000_0000;
+
+// A reader, and an empty store and table.
+fn empty(heap: Global) -> Result<(Reader, Store, Table), Fail> {
+    Ok((Reader::new(heap)?, Store::new(heap)?, Table::new(heap)?))
+}
 
 // The entry with the number i.
 fn entry(table: &Table, i: usize) -> Result<Entry, Fail> {
@@ -24,19 +30,13 @@ fn has_key(store: &Store, found: Entry, key: &[u8]) -> bool {
 
 #[test]
 fn nested_and_repeated(rt: HostRuntime) -> Result<(), Fail> {
-    let mut reader = Reader::new(rt.alloc())?;
-    let mut store = Store::new(rt.alloc())?;
-    let mut table: Table = Table::new(rt.alloc())?;
+    let (mut reader, mut store, mut table) = empty(rt.alloc())?;
     // the two keys are equal once the escape is decoded
-    let root = match reader.read(
-        b"{\"b\":[true,\"x\"], \"a\":1,\"\\u0062\" : null}",
-        Source::Record,
-        &mut store,
-        &mut table,
-    ) {
-        Ok(i) => i,
-        Err(_) => return Err(Fail::new("refused")),
-    };
+    let text = b"{\"b\":[true,\"x\"], \"a\":1,\"\\u0062\" : null}";
+    let root = reader
+        .read(text, Source::Record, &mut store, &mut table)
+        .ok()
+        .ok_or("refused")?;
     assert_eq!(rt; table.len(), 5);
     assert_eq!(rt; root, 4);
     assert_eq!(rt; store.text(), b"bxab".as_slice());
@@ -52,9 +52,7 @@ fn nested_and_repeated(rt: HostRuntime) -> Result<(), Fail> {
 
 #[test]
 fn bounds_of_integers(rt: HostRuntime) -> Result<(), Fail> {
-    let mut reader = Reader::new(rt.alloc())?;
-    let mut store = Store::new(rt.alloc())?;
-    let mut table: Table = Table::new(rt.alloc())?;
+    let (mut reader, mut store, mut table) = empty(rt.alloc())?;
     let text = b"[-9223372036854775808,9223372036854775807,9223372036854775808]";
     assert!(rt;
         reader
@@ -69,18 +67,17 @@ fn bounds_of_integers(rt: HostRuntime) -> Result<(), Fail> {
 
 #[test]
 fn refusals_leave_nothing(rt: HostRuntime) -> Result<(), Fail> {
-    let mut reader = Reader::new(rt.alloc())?;
-    let mut store = Store::new(rt.alloc())?;
-    let mut table: Table = Table::new(rt.alloc())?;
+    let (mut reader, mut store, mut table) = empty(rt.alloc())?;
     assert!(rt;
         reader
             .read(b" \"kept\" ", Source::Older, &mut store, &mut table)
             .is_ok()
     );
-    match reader.read(b"[\"lost\", 1.5]", Source::Older, &mut store, &mut table) {
-        Ok(_) => return Err(Fail::new("not refused")),
-        Err(fault) => assert!(rt; fault.number() == 3 && fault.place() == 9),
-    }
+    let fault = reader
+        .read(b"[\"lost\", 1.5]", Source::Older, &mut store, &mut table)
+        .err()
+        .ok_or("not refused")?;
+    assert!(rt; fault.number() == 3 && fault.place() == 9);
     assert_eq!(rt; store.text(), b"kept".as_slice());
     assert!(rt; store.bytes()[4] == 0 && store.bytes()[7] == 0);
     assert_eq!(rt; table.len(), 1);

@@ -8,4 +8,4 @@ returns-in-Err-clause-law c =
 
 pub returns-clause-law : goal.returns-clause-law
 returns-clause-law c =
-    law_by c.args.source c.args.store.now c.args.table.now c.args.text.now (Ok c.len-number.result) c.match-first.store c.match-first.table (search rules) (search rules) (search rules)
+    law_by c.args.source c.args.store.now c.args.table.now c.args.text.now (Ok c.len-root.result) c.match-first.store c.match-first.table (search rules) (search rules) (search rules)

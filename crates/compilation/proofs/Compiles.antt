@@ -2,7 +2,7 @@
 use Rattle.std.proofs.Common.{◌≡◌, ℕ, suc, ◌+◌, ◌<◌, ◌≤◌, List, [], ◌∷◌, ◌++◌, length, get_or, drop, Some, None, Ok, codes, sym, ap, ◌∙◌, arith, drop-cons}
 use Rattle.compilation.specs.Fates.{Fate, after_rule, all_fated, either, fated, with_message}
 use Rattle.rule_host.proofs.Compilings.{compiling_laws}
-use Rattle.rule_host.specs.Compiling.{compiled, mentions_at, program}
+use Rattle.rule_host.specs.Compiling.{compiled, mentions_at}
 use Rattle.rule_host.specs.Meaning.{Meaning}
 use Rattle.schema.specs.Laws.{rule_said}
 use Rattle.schema.specs.Rules.{WrittenRule}
@@ -15,14 +15,14 @@ use Rattle.json_values.specs.declared.parts.Source.TheVariants.{Schema}
 
 module _ (m : Meaning) (acc : List (List ℕ)) where
   -- a number stands for the expression that it was given for
-  pub stands_for : (e : List ℕ) (n : ℕ) → (compiled m acc e).0 ≡ program n → slice_get (compiled m acc e).1 n ≡ Some e
+  pub stands_for : (e : List ℕ) (n : ℕ) → (compiled m acc e).0 ≡ Ok n → slice_get (compiled m acc e).1 n ≡ Some e
   stands_for e n h = let s = compiling_laws.stands m acc e n h in slice_get-get_or (compiled m acc e).1 n [] s.0 ∙ ap Some s.1
 
   -- whether a program mentions a name, by the expression
-  pub mention_of : (e name : List ℕ) (n : ℕ) → (compiled m acc e).0 ≡ program n → mentions_at m (compiled m acc e).1 n name ≡ Some (m.mentioned e name)
+  pub mention_of : (e name : List ℕ) (n : ℕ) → (compiled m acc e).0 ≡ Ok n → mentions_at m (compiled m acc e).1 n name ≡ Some (m.mentioned e name)
   mention_of e name n h = ap (option_map (λ x. m.mentioned x name)) (stands_for e n h)
 
-  pub fated_program : (w : WrittenRule) (n : ℕ) → (compiled m acc w.rule).0 ≡ program n → fated m acc (Some w) ≡ with_message m n (m.mentioned w.rule (codes "oldSelf")) w.message_expression (compiled m acc w.rule).1
+  pub fated_program : (w : WrittenRule) (n : ℕ) → (compiled m acc w.rule).0 ≡ Ok n → fated m acc (Some w) ≡ with_message m n (m.mentioned w.rule (codes "oldSelf")) w.message_expression (compiled m acc w.rule).1
   fated_program w n h = ap (λ c. after_rule m w c (compiled m acc w.rule).1) h
 
 -- ---- rules one after another

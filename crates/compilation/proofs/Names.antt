@@ -1,9 +1,10 @@
 -- The programs of compiled rules stand for their expressions, and go on to as the host's list grows.
-use Rattle.std.proofs.Common.{◌≡◌, ℕ, ◌<◌, ◌≤◌, Bool, List, [], ◌∷◌, ◌++◌, map as each, length, Some, None, codes, Option, sym, refl, ap, ◌∙◌, subst, ⊎_elim, append_assoc, arith}
+use Rattle.std.proofs.Common.{◌≡◌, ℕ, ◌<◌, ◌≤◌, Bool, List, [], ◌∷◌, ◌++◌, map as each, length, Some, None, Ok, Err, codes, Option, sym, refl, ap, ◌∙◌, subst, ⊎_elim, append_assoc, arith}
 use Rattle.compilation.specs.Fates.{AllNamed, Fate, Fated, Named, NamedMessage, StepTaken, after_message, after_rule, all_fated, either, fated, ill_message, ill_rule, invalid, ready, with_message}
 use Rattle.compilation.proofs.Compiles.{stands_for}
 use Rattle.rule_host.proofs.Compilings.{compiling_laws}
-use Rattle.rule_host.specs.Compiling.{Compilation, compiled, no_room, program, rejected}
+use Rattle.rule_host.specs.Compiling.{Compilation, compiled}
+use Rattle.rule_host.specs.declared.answer.CompileError.TheVariants.{Full, Ill}
 use Rattle.rule_host.specs.Meaning.{Meaning}
 use Rattle.schema.specs.Laws.{rule_said}
 use Rattle.schema.specs.Rules.{WrittenRule}
@@ -76,9 +77,9 @@ module _ (m : Meaning) (w : WrittenRule) where
       l = lasts-compiled m acc e
 
       by : (c : Compilation) → (compiled m acc e).0 ≡ c → StepsWell acc (Some w) (after_message n b c (compiled m acc e).1)
-      by (program p) k = record { lasts = l; names = λ f j. subst (Named (compiled m acc e).1 (Some w)) (some_same (ready n b (Some p)) f j) (l n w.rule h, subst (λ x. NamedMessage (compiled m acc e).1 x (Some p)) (sym q) (stands_for m acc e p k)) }
-      by (rejected t) k = record { lasts = l; names = λ f j. subst (Named (compiled m acc e).1 (Some w)) (some_same (ill_message t) f j) tt }
-      by no_room k = record { lasts = l; names = λ f j. let z : ◌≡◌ {A = ℕ} 0 1 = cc in let y : ⊥ = omega arith in elim y [ ] }
+      by (Ok p) k = record { lasts = l; names = λ f j. subst (Named (compiled m acc e).1 (Some w)) (some_same (ready n b (Some p)) f j) (l n w.rule h, subst (λ x. NamedMessage (compiled m acc e).1 x (Some p)) (sym q) (stands_for m acc e p k)) }
+      by (Err (Ill t)) k = record { lasts = l; names = λ f j. subst (Named (compiled m acc e).1 (Some w)) (some_same (ill_message t) f j) tt }
+      by (Err Full) k = record { lasts = l; names = λ f j. let z : ◌≡◌ {A = ℕ} 0 1 = cc in let y : ⊥ = omega arith in elim y [ ] }
 
   rule_well : (acc : List (List ℕ)) → StepsWell acc (Some w) (fated m acc (Some w))
   rule_well acc = by (compiled m acc w.rule).0 refl
@@ -87,11 +88,11 @@ module _ (m : Meaning) (w : WrittenRule) where
       l = lasts-compiled m acc w.rule
 
       by : (c : Compilation) → (compiled m acc w.rule).0 ≡ c → StepsWell acc (Some w) (after_rule m w c (compiled m acc w.rule).1)
-      by (program n) k =
+      by (Ok n) k =
           let r = message_well (compiled m acc w.rule).1 n (m.mentioned w.rule (codes "oldSelf")) (stands_for m acc w.rule n k) w.message_expression refl in
           record { lasts = λ i e h. r.lasts i e (l i e h); names = r.names }
-      by (rejected t) k = record { lasts = l; names = λ f j. subst (Named (compiled m acc w.rule).1 (Some w)) (some_same (ill_rule t) f j) tt }
-      by no_room k = record { lasts = l; names = λ f j. let z : ◌≡◌ {A = ℕ} 0 1 = cc in let y : ⊥ = omega arith in elim y [ ] }
+      by (Err (Ill t)) k = record { lasts = l; names = λ f j. subst (Named (compiled m acc w.rule).1 (Some w)) (some_same (ill_rule t) f j) tt }
+      by (Err Full) k = record { lasts = l; names = λ f j. let z : ◌≡◌ {A = ℕ} 0 1 = cc in let y : ⊥ = omega arith in elim y [ ] }
 
 pub steps_well : (m : Meaning) (acc : List (List ℕ)) (w : Option WrittenRule) → StepsWell acc w (fated m acc w)
 steps_well m acc None = record { lasts = lasts_self acc; names = λ f k. subst (Named acc None) (some_same invalid f k) refl }

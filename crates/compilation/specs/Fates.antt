@@ -1,6 +1,7 @@
 -- What becomes of a rule that a host compiles.
-use Rattle.std.specs.Prelude.{◌≡◌, ℕ, Bool, List, [], ◌∷◌, ◌++◌, Some, None, codes, Option}
-use Rattle.rule_host.specs.Compiling.{Compilation, compiled, no_room, program, rejected}
+use Rattle.std.specs.Prelude.{◌≡◌, ℕ, Bool, List, [], ◌∷◌, ◌++◌, Some, None, Ok, Err, codes, Option}
+use Rattle.rule_host.specs.Compiling.{Compilation, compiled}
+use Rattle.rule_host.specs.declared.answer.CompileError.TheVariants.{Full, Ill}
 use Rattle.rule_host.specs.Meaning.{Meaning}
 use Rattle.schema.specs.Laws.{rule_said}
 use Rattle.schema.specs.Rules.{WrittenRule}
@@ -22,9 +23,9 @@ pub record StepTaken : Type 0 where
 
 -- the message expression of the rule n was compiled
 abbrev pub after_message : ℕ → Bool → Compilation → List (List ℕ) → StepTaken
-after_message n b (program p) acc = record { fate = Some (ready n b (Some p)); accepted = acc }
-after_message n b (rejected t) acc = record { fate = Some (ill_message t); accepted = acc }
-after_message n b no_room acc = record { fate = None; accepted = acc }
+after_message n b (Ok p) acc = record { fate = Some (ready n b (Some p)); accepted = acc }
+after_message n b (Err (Ill t)) acc = record { fate = Some (ill_message t); accepted = acc }
+after_message n b (Err Full) acc = record { fate = None; accepted = acc }
 
 -- the rule n was compiled, and its message expression is to be, if there is one
 abbrev pub with_message : Meaning → ℕ → Bool → Option (List ℕ) → List (List ℕ) → StepTaken
@@ -33,9 +34,9 @@ with_message m n b (Some e) acc = after_message n b (compiled m acc e).0 (compil
 
 -- the rule was compiled
 abbrev pub after_rule : Meaning → WrittenRule → Compilation → List (List ℕ) → StepTaken
-after_rule m w (program n) acc = with_message m n (m.mentioned w.rule (codes "oldSelf")) w.message_expression acc
-after_rule m w (rejected t) acc = record { fate = Some (ill_rule t); accepted = acc }
-after_rule m w no_room acc = record { fate = None; accepted = acc }
+after_rule m w (Ok n) acc = with_message m n (m.mentioned w.rule (codes "oldSelf")) w.message_expression acc
+after_rule m w (Err (Ill t)) acc = record { fate = Some (ill_rule t); accepted = acc }
+after_rule m w (Err Full) acc = record { fate = None; accepted = acc }
 
 -- a rule is compiled, then, if it is well, its message expression
 abbrev pub fated : Meaning → List (List ℕ) → Option WrittenRule → StepTaken

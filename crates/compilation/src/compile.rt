@@ -1,16 +1,15 @@
 // Gives the rules of a schema to a host.
-ghost use Rattle.std.specs.Prelude.{◌≡◌, codes};
-ghost use Rattle.compilation.specs.Compiled.{fate_of};
-ghost use Rattle.compilation.specs.Fates.{StepTaken, after_message, fated, with_message};
+ghost use Rattle.std.specs.Prelude.{◌≡◌};
+ghost use Rattle.compilation.specs.Compiled.{fate_in};
+ghost use Rattle.compilation.specs.Fates.{fated, with_message};
 ghost use Rattle.json_values.specs.Meaning.{part_of};
-ghost use Rattle.rule_host.specs.Compiling.{compiled, mentions_at};
 ghost use Rattle.schema.specs.Laws.{rule_said};
-ghost use Rattle.std.specs.Option.{option_map, unwrap_or};
+ghost use Rattle.std.specs.Option.{option_map};
 
 use super::validation::{CompilationError, CompilationResult, Validation};
-use json_values::part_text;
+use fixed::refusal::Full;
 use json_values::parts::Part;
-use rule_host::answer::Compiled;
+use rule_host::answer::CompileError;
 use rule_host::host::RuleHost;
 use schema::rule::{InvalidRule, Rule};
 
@@ -21,48 +20,52 @@ fn compile_message<H: RuleHost>(
     message: Option<Part>,
     program: usize,
     is_transition_rule: bool,
-) -> Option<Validation>
+) -> Result<Validation, Full>
     ensures kept { H.meaning host.new ≡ H.meaning host.old }
-    ensures answer { option_map fate_of result ≡ (with_message (H.meaning host.old) program is_transition_rule (option_map (part_of (λ _. text.now)) message) (H.accepted host.old)).fate }
+    ensures answer { fate_in result ≡ (with_message (H.meaning host.old) program is_transition_rule (option_map (part_of (λ _. text.now)) message) (H.accepted host.old)).fate }
     ensures list { H.accepted host.new ≡ (with_message (H.meaning host.old) program is_transition_rule (option_map (part_of (λ _. text.now)) message) (H.accepted host.old)).accepted }
 {
     let Some(part) = message else {
-        return Some(Ok(CompilationResult {
+        return Ok(Ok(CompilationResult {
             program,
             is_transition_rule,
             message_program: None,
         }));
     };
-    match host.compile(part_text(text, part)) {
-        Compiled::Program(message) => Some(Ok(CompilationResult {
+    match host.compile(part.of(text)) {
+        Ok(message) => Ok(Ok(CompilationResult {
             program,
             is_transition_rule,
             message_program: Some(message),
         })),
-        Compiled::Ill(why) => Some(Err(CompilationError::MessageExpressionParse(why))),
-        Compiled::Full => None,
+        Err(error) => match error {
+            CompileError::Ill(why) => Ok(Err(CompilationError::MessageExpressionParse(why))),
+            CompileError::Full => Err(Full),
+        },
     }
 }
 
-// Compiles a rule, then, if it is well, its message expression; nothing where the host's list is full.
+// Compiles a rule, then, if it is well, its message expression. There is no answer where the host's list is full.
 pub fn compile_rule<H: RuleHost>(
     host: &mut H,
     text: &[u8],
     rule: Result<Rule, InvalidRule>,
-) -> Option<Validation>
+) -> Result<Validation, Full>
     ensures kept { H.meaning host.new ≡ H.meaning host.old }
-    ensures answer { option_map fate_of result ≡ (fated (H.meaning host.old) (H.accepted host.old) (rule_said text.now rule)).fate }
+    ensures answer { fate_in result ≡ (fated (H.meaning host.old) (H.accepted host.old) (rule_said text.now rule)).fate }
     ensures list { H.accepted host.new ≡ (fated (H.meaning host.old) (H.accepted host.old) (rule_said text.now rule)).accepted }
 {
     let Ok(rule) = rule else {
-        return Some(Err(CompilationError::InvalidRule));
+        return Ok(Err(CompilationError::InvalidRule));
     };
-    match host.compile(part_text(text, rule.rule)) {
-        Compiled::Program(program) => {
+    match host.compile(rule.rule.of(text)) {
+        Ok(program) => {
             let mentions = host.mentions(program, b"oldSelf").unwrap_or(false);
             compile_message(host, text, rule.message_expression, program, mentions)
         }
-        Compiled::Ill(why) => Some(Err(CompilationError::Parse(why))),
-        Compiled::Full => None,
+        Err(error) => match error {
+            CompileError::Ill(why) => Ok(Err(CompilationError::Parse(why))),
+            CompileError::Full => Err(Full),
+        },
     }
 }

@@ -2,7 +2,7 @@
 use fixed::text::BoundedText;
 
 // A rule that the host has taken.
-#[derive(Clone, Copy)]
+#[derive(Clone, Copy, PartialEq, Eq, Debug)]
 pub struct CompilationResult {
     pub program: usize,
     // Whether the rule mentions `oldSelf`.
@@ -11,7 +11,7 @@ pub struct CompilationResult {
 }
 
 // Why a rule is not executed.
-#[derive(Clone, Copy)]
+#[derive(Clone, Copy, PartialEq, Eq, Debug)]
 pub enum CompilationError {
     // The host takes the rule for ill, and says why.
     Parse(BoundedText),

@@ -1,11 +1,12 @@
 // Why a text is refused: which text, where, and what for.
-ghost use Rattle.std.specs.Prelude.{◌≡◌};
-ghost use Rattle.compiled_schema.specs.Faults.{flawed, load_fault, read_fault, refusal_number, refusal_word};
+ghost use Rattle.std.specs.Prelude.{◌≡◌, Some};
+ghost use Rattle.compiled_schema.specs.Faults.{load_fault, read_fault, refusal_number, refusal_word};
 
 use compilation::fault::LoadFault;
 use json_reader::fault::Fault as ReadFault;
 use json_scanner::modes::Fault as Flaw;
 use json_values::parts::Source;
+use std::fmt;
 
 #[derive(Clone, Copy, PartialEq, Eq, Debug)]
 pub enum Refusal {
@@ -18,11 +19,11 @@ pub enum Refusal {
     ProgramsFull,
 }
 
-impl Refusal {
-    pub fn number(self) -> u8
-        ensures { result ≡ refusal_number self }
-    {
-        match self {
+impl From<Refusal> for u8 {
+    ghost from_gives = { λ r n. n ≡ refusal_number r };
+
+    fn from(refusal: Refusal) -> u8 {
+        match refusal {
             Refusal::Malformed => 1,
             Refusal::Nested => 2,
             Refusal::Number => 3,
@@ -32,11 +33,13 @@ impl Refusal {
             Refusal::ProgramsFull => 7,
         }
     }
+}
 
-    pub fn word(self) -> &'static str
-        ensures { result.now ≡ refusal_word self }
-    {
-        match self {
+impl fmt::Display for Refusal {
+    ghost output = { λ r. Some (refusal_word r) };
+
+    fn fmt<W: fmt::Write>(&self, f: &mut fmt::Formatter<W>) -> fmt::Result {
+        f.write_str(match self {
             Refusal::Malformed => "malformed",
             Refusal::Nested => "nested",
             Refusal::Number => "number",
@@ -44,12 +47,12 @@ impl Refusal {
             Refusal::TreeFull => "tree full",
             Refusal::RulesFull => "rules full",
             Refusal::ProgramsFull => "programs full",
-        }
+        })
     }
 }
 
 // The text, the number of bytes before the fault, and the refusal.
-#[derive(Clone, Copy)]
+#[derive(Clone, Copy, PartialEq, Eq, Debug)]
 pub struct Fault {
     pub text: Source,
     pub place: usize,

@@ -1,5 +1,5 @@
 -- Loading a schema with a host: steps in loading order, up to the first for which there is no room.
-use Rattle.std.specs.Prelude.{ℕ, ◌+◌, cond, List, [], ◌∷◌, ◌++◌, length, Some, None, Ok, Err, Option, Result, nat_lt}
+use Rattle.std.specs.Prelude.{ℕ, ◌+◌, cond, List, [], ◌∷◌, ◌++◌, length, Some, None, Option, nat_lt}
 use Rattle.compilation.specs.Fates.{Fate, either, fated}
 use Rattle.compilation.specs.declared.fault.LoadFault.{LoadFault}
 use Rattle.compilation.specs.declared.fault.LoadFault.TheVariants.{ProgramsFull, RulesFull, TreeFull}
@@ -25,8 +25,3 @@ loading m t (rule r ∷ more) n known acc =
     (λ f. loading m t more n (known ++ f ∷ []) (fated m acc (rule_said t r.rule)).accepted)
     (record { fates = known; accepted = (fated m acc (rule_said t r.rule)).accepted; fault = Some (ProgramsFull r.place) }))
     (record { fates = known; accepted = acc; fault = Some (RulesFull r.place) })
-
--- the fault of an answer, if it is one
-abbrev pub fault_of : {X : Type 0} → Result X LoadFault → Option LoadFault
-fault_of (Ok x) = None
-fault_of (Err f) = Some f

@@ -3,6 +3,5 @@
 
 mod compiled;
 pub mod fault;
-mod load;
 
 pub use compiled::CompiledSchema;

@@ -1,7 +1,6 @@
 // A line for each rule that is not executed: where its node is in the schema, the rule, and why.
 use compilation::validation::CompilationError;
 use compiled_schema::CompiledSchema;
-use json_values::part_text;
 use json_values::parts::Part;
 use json_writer::push_quoted;
 use schema::group::{Group, ORDER};
@@ -45,7 +44,7 @@ impl Complaints<'_> {
         let doc = self.schema.document();
         let entry = node.targets.properties.first.saturating_add(index);
         if let Some(property) = doc.entries.get(entry) {
-            self.push_key(part_text(doc.text, property.key))?;
+            self.push_key(property.key.of(doc.text))?;
         }
         Ok(())
     }
@@ -67,7 +66,7 @@ impl Complaints<'_> {
         if let Some(part) = part {
             self.lines.push(b' ')?;
             push_quoted(
-                part_text(self.schema.document().text, part),
+                part.of(self.schema.document().text),
                 &mut self.lines,
             )?;
         }

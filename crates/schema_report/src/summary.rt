@@ -1,7 +1,6 @@
 // How many nodes and rules a schema has, and how many of its rules are not executed.
 ghost use Rattle.std.specs.Prelude.{◌≡◌, ◌++◌, OnOk, Some};
 ghost use Rattle.compilation.specs.Compiled.{fate_of};
-ghost use Rattle.compiled_schema.specs.Holds.{held};
 ghost use Rattle.schema_report.specs.Counted.{is_ill, is_invalid, summary_line, summary_of, summary_text};
 
 use compilation::validation::{CompilationError, Validation};
@@ -51,7 +50,7 @@ fn is_ill(validation: &Validation) -> bool
 
 // Counts the nodes and the rules.
 pub fn summarize(schema: &CompiledSchema) -> Summary
-    ensures { result ≡ summary_of (held schema.now) }
+    ensures { result ≡ summary_of (schema.now) }
 {
     let validations = schema.validations();
     Summary {

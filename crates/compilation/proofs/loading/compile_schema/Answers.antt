@@ -2,10 +2,10 @@ use Rattle.std.proofs.Common.{◌≡◌, ℕ, List, [], map, Some, None, Option,
 use Rattle.compilation.specs.Fates.{AllNamed, Fated, all_fated}
 use Rattle.compilation.proofs.Names.{fates_named}
 use Rattle.compilation.proofs.Passes.{both, two_passes}
-use Rattle.fixed.specs.Listed.{listed}
 use Rattle.rule_host.specs.Meaning.{Meaning}
 use Rattle.schema.specs.Laws.{rule_said}
-use Rattle.schema_tree.specs.Builds.{progress, fault_of as tree_fault_of}
+use Rattle.schema_tree.specs.Builds.{progress}
+use Rattle.std.specs.Result.{result_err}
 use Rattle.schema_tree.specs.Steps.{Progress, steps}
 use Rattle.schema_tree.specs.declared.fault.TreeFault.{TreeFault}
 use Rattle.schema_tree.specs.declared.node.RuleEntry.{RuleEntry}
@@ -22,9 +22,9 @@ returns-in-Some g c =
     let tree = c.load-loaded.new.self in
     let e = c.in-Some.ensures in
     let f = c.load-loaded.ensures.taken in
-    let two = two_passes m t (steps 65 t es c.args.root) (progress tree) (tree_fault_of c.load-loaded.result) acc f in
+    let two = two_passes m t (steps 65 t es c.args.root) (progress tree) (result_err c.load-loaded.result) acc f in
     let x = e.fated ∙ ap (λ (z : List RuleEntry). all_fated m t z [] acc) c.rules.ensures.value in
-    record { kept = e.kept; loading = ap (λ (z : Fated). both z (tree_fault_of c.load-loaded.result)) x ∙ two; tree = ap (λ (z : Progress × Option TreeFault). z.0) f; loaded = tt; named = tt }
+    record { kept = e.kept; loading = ap (λ (z : Fated). both z (result_err c.load-loaded.result)) x ∙ two; tree = ap (λ (z : Progress × Option TreeFault). z.0) f; loaded = tt; named = tt }
 
 pub returns-in_err-root : goal.returns-in_err-root
 returns-in_err-root g c =
@@ -55,7 +55,7 @@ returns g c =
     let t = c.args.doc.text.now in
     let es = c.args.doc.entries.now in
     let tree = c.load-loaded.new.self in
-    let rs = listed tree.rules in
+    let rs = tree.rules in
     let e = c.in_default.ensures in
     let f = c.in_ok-root.ensures.taken in
     let two = two_passes m t (steps 65 t es c.args.root) (progress tree) None acc f in

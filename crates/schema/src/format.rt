@@ -3,12 +3,13 @@ ghost use Rattle.std.specs.Prelude.{◌≡◌, Some};
 ghost use Rattle.schema.specs.Parts.{named_format};
 
 // The `format` of a schema. Texts under `Duration` and `Bytes` are converted, if they can be.
-#[derive(Clone, Copy, PartialEq, Eq, Debug)]
+#[derive(Clone, Copy, PartialEq, Eq, Debug, Default)]
 pub enum SchemaFormat {
     Duration,
     Bytes,
     // An integer or a text: no format counts.
     IntOrString,
+    #[default]
     None,
 }
 

@@ -7,14 +7,8 @@ use Rattle.schema.specs.Parts.{linked}
 use Rattle.schema_tree.specs.Stands.{Describes, EachStands, Stands, Tables, next_nodes, size, total}
 use Rattle.schema_tree.specs.declared.node.Node.{Node}
 use Rattle.schema_tree.specs.declared.node.RuleEntry.{RuleEntry}
-use Rattle.std.proofs.lemmas.List.{drop-append-le, take-append-le, length-drop, length-append}
-
--- a part of a list that lies within it stays as the list grows
-pub within_stays : {X : Type 0} (xs more : List X) (from n : ℕ) → from + n ≤ length xs → take n (drop from (xs ++ more)) ≡ take n (drop from xs)
-within_stays xs more from n h =
-    let le : from ≤ length xs = omega arith in
-    let long : n ≤ length (drop from xs) = omega (arith, length-drop from xs) in
-    ap (take n) (drop-append-le from xs more le) ∙ take-append-le n (drop from xs) more long
+use Rattle.schema_tree.proofs.Lists.{within_stays}
+use Rattle.std.proofs.lemmas.List.{length-append}
 
 pub each_implies : (P Q : ℕ → Node → Value → Type 0) (f : Value → ℕ) → ((n : ℕ) (r : Node) (v : Value) → P n r v → Q n r v) → (n : ℕ) (rs : List Node) (vs : List Value) → EachStands P f n rs vs → EachStands Q f n rs vs
 each_implies P Q f g n [] [] h = tt
@@ -55,6 +49,7 @@ module _ (t : List ℕ) (es : List Entry) (a b : Tables) (g : Grown a b) where
     format = d.format;
     default = d.default;
     names = d.names;
+    links = d.links;
     counts = d.counts;
     rules = ap (each (λ (r : RuleEntry). rule_said t r.rule)) (ap (λ (z : List RuleEntry). take row.rules.count (drop row.rules.first z)) g.rules ∙ within_stays a.rules g.more_rules row.rules.first row.rules.count d.rules_in) ∙ d.rules;
     rules_in = omega (arith, d.rules_in, ap length g.rules, length-append a.rules g.more_rules);
@@ -66,10 +61,11 @@ module _ (t : List ℕ) (es : List Entry) (a b : Tables) (g : Grown a b) where
 
   pub stands_stays : (k n : ℕ) (row : Node) (s : Value) → Stands k t es a n row s → Stands k t es b n row s
   unfolding Stands
-  stands_stays zero n row s h = (h.0, describes_stays row null h.1)
+  stands_stays zero n row s h = (h.0, h.1, describes_stays row null h.2)
   stands_stays (suc k) n row s h = (
     h.0,
-    describes_stays row s h.1,
+    h.1,
+    describes_stays row s h.2,
     each_implies (Stands k t es a) (Stands k t es b) (size k) (λ m r v. stands_stays k m r v) (n + 1) (next_nodes b row (length (linked s))) (linked s)
-        (subst (λ (z : List Node). EachStands (Stands k t es a) (size k) (n + 1) z (linked s)) (sym (nodes_stay row (length (linked s)) h.1.links_in)) h.2),
+        (subst (λ (z : List Node). EachStands (Stands k t es a) (size k) (n + 1) z (linked s)) (sym (nodes_stay row (length (linked s)) h.2.links_in)) h.3),
   )

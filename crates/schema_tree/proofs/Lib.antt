@@ -1,7 +1,6 @@
-pub mod Runs
+pub mod Lists
 pub mod Taking
 pub mod Growing
-pub mod Running
-pub mod Spreading
+pub mod Building
 pub mod Loading
 pub mod Groups

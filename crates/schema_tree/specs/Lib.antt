@@ -1,3 +1,4 @@
+pub mod Tree
 pub mod Nodes
 pub mod Steps
 pub mod Stands

@@ -1,8 +1,8 @@
 -- The nodes of a schema's table.
-use Rattle.std.specs.Prelude.{ℕ, ◌+◌, false, cond, List, [], ◌∷◌, ◌++◌, take, drop, None, codes, ◌==◌}
+use Rattle.std.specs.Prelude.{ℕ, ◌+◌, false, List, take, drop, None, codes, sum_by}
 use Rattle.json_values.specs.declared.table.Entry.{Entry}
 use Rattle.json_values.specs.declared.table.Span.{Span}
-use Rattle.schema.specs.Entries.{flag_at, format_at, is_map_at, nowhere, numbers_in, part_at, targets_at}
+use Rattle.schema.specs.Entries.{flag_at, format_at, is_map_at, nowhere, part_at, targets_at}
 use Rattle.schema.specs.Parts.{order}
 use Rattle.schema.specs.declared.format.SchemaFormat.TheVariants as format
 use Rattle.schema.specs.declared.group.Group.{Group}
@@ -19,28 +19,22 @@ target x AllOf = x.all_of
 target x OneOf = x.one_of
 target x AnyOf = x.any_of
 
--- all entries that the links of these groups lead to
-unfoldable pub spread : Targets → List Group → List ℕ
-spread x [] = []
-spread x (g ∷ gs) = numbers_in (target x g) ++ spread x gs
+-- how many groups come before it in their order
+abbrev pub place : Group → ℕ
+place Properties = 0
+place Items = 1
+place Additional = 2
+place AllOf = 3
+place OneOf = 4
+place AnyOf = 5
 
--- tells groups apart
-abbrev pub rank : Group → ℕ
-rank Properties = 0
-rank Items = 1
-rank Additional = 2
-rank AllOf = 3
-rank OneOf = 4
-rank AnyOf = 5
-
--- how many links of these groups come before those of the group g
-unfoldable pub links_before : Targets → Group → List Group → ℕ
-links_before x g [] = 0
-links_before x g (h ∷ hs) = cond (rank h == rank g) 0 ((target x h).count + links_before x g hs)
+-- how many links come before those of the group g
+abbrev pub links_before : Targets → Group → ℕ
+links_before x g = sum_by (λ h. (target x h).count) (take (place g) order)
 
 -- the nodes that the links of a group lead to
 abbrev pub group_nodes : List Node → Node → Group → List Node
-group_nodes nodes row g = take (target row.targets g).count (drop (row.links + links_before row.targets g order) nodes)
+group_nodes nodes row g = take (target row.targets g).count (drop (row.links + links_before row.targets g) nodes)
 
 -- those of the schema i
 abbrev pub read_targets : List ℕ → List Entry → ℕ → Targets

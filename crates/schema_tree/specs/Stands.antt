@@ -26,6 +26,7 @@ pub record Describes (t : List ℕ) (es : List Entry) (tables : Tables) (row : N
   pub format : row.format ≡ format_of s
   pub default : option_map (value_in t es) row.default ≡ part (codes "default") s
   pub names : each (key_in t es) (numbers_in row.targets.properties) ≡ property_names s
+  pub links : (g : Group) → each (value_in t es) (numbers_in (target row.targets g)) ≡ linked_by g s
   pub counts : (g : Group) → (target row.targets g).count ≡ length (linked_by g s)
   pub rules : each (λ r. rule_said t r.rule) (take row.rules.count (drop row.rules.first tables.rules)) ≡ rules_of s
   pub rules_in : row.rules.first + row.rules.count ≤ length tables.rules
@@ -53,9 +54,9 @@ next_nodes tables row n = take n (drop row.links tables.nodes)
 
 -- the node `row` is the schema s, of which k levels are read, and n is its number in loading order
 unfoldable pub Stands : ℕ → List ℕ → List Entry → Tables → ℕ → Node → Value → Type 0
-Stands zero t es tables n row s = (row.number ≡ n) × Describes t es tables row null
+Stands zero t es tables n row s = (row.number ≡ n) × (value_in t es row.«entry» ≡ s) × Describes t es tables row null
 Stands (suc k) t es tables n row s =
-    (row.number ≡ n) × Describes t es tables row s × EachStands (Stands k t es tables) (size k) (n + 1) (next_nodes tables row (length (linked s))) (linked s)
+    (row.number ≡ n) × (value_in t es row.«entry» ≡ s) × Describes t es tables row s × EachStands (Stands k t es tables) (size k) (n + 1) (next_nodes tables row (length (linked s))) (linked s)
 
 -- the nodes of a group of links are the schemas that the group leads to, with one level less
 abbrev pub GroupsStand : Type 0

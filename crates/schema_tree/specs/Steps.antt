@@ -1,5 +1,5 @@
 -- The steps in which a schema is loaded, and the first for which there is no room.
-use Rattle.std.specs.Prelude.{ℕ, zero, suc, ◌+◌, cond, List, [], ◌∷◌, ◌++◌, length, Some, None, Option, nat_lt}
+use Rattle.std.specs.Prelude.{ℕ, zero, suc, ◌+◌, cond, List, [], ◌∷◌, ◌++◌, map as each, length, Some, None, Option, nat_lt}
 use Rattle.json_values.specs.declared.table.Entry.{Entry}
 use Rattle.schema.specs.Entries.{linked_at, numbers_in, place_in, rules_at}
 use Rattle.schema.specs.RuleEntries.{rule_at}
@@ -18,9 +18,8 @@ abbrev pub rule_entry : List ℕ → List Entry → ℕ → RuleEntry
 rule_entry t es i = record { place = place_in es i; rule = rule_at t es i }
 
 -- rules, one after another
-unfoldable pub rule_steps : List ℕ → List Entry → List ℕ → List Step
-rule_steps t es [] = []
-rule_steps t es (i ∷ is) = rule (rule_entry t es i) ∷ rule_steps t es is
+abbrev pub rule_steps : List ℕ → List Entry → List ℕ → List Step
+rule_steps t es is = each (λ i. rule (rule_entry t es i)) is
 
 -- the schema i: a node before its rules, and these before what links lead to, k links at most; in what is further nothing is read
 unfoldable pub steps : ℕ → List ℕ → List Entry → ℕ → List Step

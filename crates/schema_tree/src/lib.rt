@@ -2,11 +2,8 @@
 #![tactic(auto)]
 
 pub mod fault;
-mod load;
 pub mod node;
-mod table;
 pub mod targets;
 mod tree;
 
-pub use table::LEVELS;
-pub use tree::SchemaTree;
+pub use tree::{LEVELS, NODES, RULES, SchemaTree};

@@ -4,18 +4,18 @@ ghost use Rattle.schema_tree.specs.Nodes.{read_node, unread_node};
 
 use super::targets::Targets;
 use json_values::table::Span;
-use schema::document::Document;
+use schema::document::SchemaAt;
 use schema::format::SchemaFormat;
 use schema::rule::{InvalidRule, Rule};
 
 // A rule with the place of its first byte.
-#[derive(Clone, Copy)]
+#[derive(Clone, Copy, PartialEq, Eq, Debug)]
 pub struct RuleEntry {
     pub place: usize,
     pub rule: Result<Rule, InvalidRule>,
 }
 
-#[derive(Clone, Copy)]
+#[derive(Clone, Copy, PartialEq, Eq, Debug, Default)]
 pub struct Node {
     // Its number in loading order.
     pub number: usize,
@@ -35,51 +35,34 @@ pub struct Node {
     pub default: Option<usize>,
 }
 
-const NOWHERE: Span = Span { first: 0, count: 0 };
-
 impl Node {
-    // The node of the schema i.
-    pub fn read(doc: Document<'_>, i: usize, number: usize, rules: Span, links: usize) -> Node
-        ensures { result ≡ read_node doc.entry.text.now doc.entry.entries.now i number rules links }
+    // The node of a schema.
+    pub fn read(schema: SchemaAt<'_>, number: usize, rules: Span, links: usize) -> Node
+        ensures { result ≡ read_node schema.entry.doc.text.now schema.entry.doc.entries.now schema.entry.at number rules links }
     {
         Node {
             number,
-            entry: i,
-            targets: Targets::read(doc, i),
+            entry: schema.at,
+            targets: Targets::read(schema),
             links,
             rules,
-            is_map: doc.is_map(i),
-            nullable: doc.flag(i, b"nullable"),
-            preserve_unknown_fields: doc.flag(i, b"x-kubernetes-preserve-unknown-fields"),
-            embedded_resource: doc.flag(i, b"x-kubernetes-embedded-resource"),
-            format: doc.format(i),
-            default: doc.part(i, b"default"),
+            is_map: schema.is_map(),
+            nullable: schema.flag(b"nullable"),
+            preserve_unknown_fields: schema.flag(b"x-kubernetes-preserve-unknown-fields"),
+            embedded_resource: schema.flag(b"x-kubernetes-embedded-resource"),
+            format: schema.format(),
+            default: schema.part(b"default"),
         }
     }
 
     // A node in which nothing is read.
-    pub fn unread(i: usize, number: usize) -> Node
-        ensures { result ≡ unread_node i number }
+    pub fn unread(entry: usize, number: usize) -> Node
+        ensures { result ≡ unread_node entry number }
     {
         Node {
             number,
-            entry: i,
-            targets: Targets {
-                properties: NOWHERE,
-                items: NOWHERE,
-                additional: NOWHERE,
-                all_of: NOWHERE,
-                one_of: NOWHERE,
-                any_of: NOWHERE,
-            },
-            links: 0,
-            rules: NOWHERE,
-            is_map: false,
-            nullable: false,
-            preserve_unknown_fields: false,
-            embedded_resource: false,
-            format: SchemaFormat::None,
-            default: None,
+            entry,
+            ..Node::default()
         }
     }
 }

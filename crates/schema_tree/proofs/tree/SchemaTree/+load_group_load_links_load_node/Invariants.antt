@@ -1,10 +1,9 @@
-use Rattle.std.proofs.Common.{◌≡◌, ◌+◌, ◌-◌, ◌*◌, take, drop}
-use Rattle.schema.specs.Entries.{run}
+use Rattle.std.proofs.Common.{◌+◌, ◌-◌, ◌*◌, None, take}
+use Rattle.schema.specs.Entries.{numbers_in, targets_at}
 use Rattle.schema.specs.Parts.{order}
-use Rattle.schema_tree.specs.Builds.{Run, progress}
-use Rattle.schema_tree.specs.Nodes.{spread}
-use Rattle.schema_tree.specs.Steps.{steps, taken}
-use Rattle.std.specs.List.{flat_map}
+use Rattle.schema_tree.specs.Builds.{Takes, Waits}
+use Rattle.schema_tree.specs.Steps.{steps}
+use Rattle.std.specs.List.{flat_map, range_with_len}
 use Rattle.schema_tree.proofs.tree.SchemaTree.+load_group_load_links_load_node.Given as goal
 
 abbrev pub decreases-load_group : goal.decreases-load_group
@@ -18,10 +17,10 @@ decreases-load_node l = 3 * l.levels
 
 abbrev pub invariant-load_group-loop-i : goal.invariant-load_group-loop-i
 invariant-load_group-loop-i l =
-    (taken (flat_map (steps l.levels l.doc.text.now l.doc.entries.now) (run l.initial.i (l.end - l.initial.i))) (progress l.initial.self) ≡ taken (flat_map (steps l.levels l.doc.text.now l.doc.entries.now) (run l.i (l.end - l.i))) (progress l.self))
-    × Run l.levels l.doc.text.now l.doc.entries.now l.initial.self l.self (run l.initial.i (l.i - l.initial.i))
+    Takes (flat_map (steps l.levels l.schema.doc.text.now l.schema.doc.entries.now) (range_with_len l.initial.i (l.i - l.initial.i))) l.initial.self l.self None
+    × Waits l.levels l.schema.doc.text.now l.schema.doc.entries.now l.initial.self l.self (range_with_len l.initial.i (l.i - l.initial.i))
 
-abbrev pub invariant-load_links-loop-k : goal.invariant-load_links-loop-k
-invariant-load_links-loop-k l =
-    (taken (flat_map (steps l.levels l.doc.text.now l.doc.entries.now) (spread l.targets order)) (progress l.initial.self) ≡ taken (flat_map (steps l.levels l.doc.text.now l.doc.entries.now) (spread l.targets (drop l.k order))) (progress l.self))
-    × Run l.levels l.doc.text.now l.doc.entries.now l.initial.self l.self (spread l.targets (take l.k order))
+abbrev pub invariant-load_links-loop-group : goal.invariant-load_links-loop-group
+invariant-load_links-loop-group l =
+    Takes (flat_map (λ g. flat_map (steps l.levels l.schema.doc.text.now l.schema.doc.entries.now) (numbers_in (targets_at l.schema.doc.text.now l.schema.doc.entries.now g l.schema.at))) (take l.group-index order)) l.initial.self l.self None
+    × Waits l.levels l.schema.doc.text.now l.schema.doc.entries.now l.initial.self l.self (flat_map (λ g. numbers_in (targets_at l.schema.doc.text.now l.schema.doc.entries.now g l.schema.at)) (take l.group-index order))

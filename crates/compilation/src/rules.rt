@@ -8,9 +8,8 @@ use super::fault::HostFull;
 use super::validation::Validation;
 use fixed::list::FixedList;
 use rule_host::host::RuleHost;
-use schema_tree::node::RuleEntry;
-
 pub use schema_tree::RULES;
+use schema_tree::node::RuleEntry;
 
 pub type Validations = FixedList<Validation, RULES>;
 
@@ -28,8 +27,7 @@ pub fn compile_rules<H: RuleHost>(
     validations.clear();
     for entry in rules {
         let place = entry.place;
-        let validation =
-            compile_rule(host, text, entry.rule).map_err(|_| HostFull { place })?;
+        let validation = compile_rule(host, text, entry.rule).map_err(|_| HostFull { place })?;
         let _ = validations.push(validation);
     }
     Ok(())

@@ -1,24 +1,17 @@
--- A command by its first byte and what lies behind it.
-use Rattle.std.proofs.Common.{◌≡◌, ℕ, ◌+◌, ◌-◌, ◌<◌, List, [], ◌∷◌, length, get_or, take, drop, None, Option, sym, refl, ap, ◌∙◌, arith}
+-- What stands at the front of bytes.
+use Rattle.std.proofs.Common.{◌≡◌, ℕ, List, [], ◌∷◌, Some, None, Option, refl}
 use Rattle.image.specs.Commands.{command}
-use Rattle.image.specs.Decode.{operand, seen}
+use Rattle.image.specs.Decode.{operand, seen, then}
 use Rattle.image.specs.declared.command.Command.{Command}
-use Rattle.std.proofs.lemmas.List.{drop-drop, take_rest}
+use Rattle.image_cursor.specs.Operands.{front_command}
+use Rattle.std.specs.Option.{option_map}
 
-pub seen_empty : (s : List ℕ) → length s < 1 → None ≡ seen s
+by_command : (o : Option Command) (s : List ℕ) → operand o s ≡ then {A = Command × List ℕ} (option_map (λ c. (c, s)) o) (λ r. operand (Some r.0) r.1)
+by_command None s = refl
+by_command (Some c) s = refl
+
+-- a command's byte, and then its operand
+pub seen_front : (s : List ℕ) → seen s ≡ then (front_command s) (λ r. operand (Some r.0) r.1)
 unfolding seen
-seen_empty [] h = refl
-seen_empty (b ∷ s) h = absurd (let z : ⊥ = omega arith in z)
-
-cons_seen : (s : List ℕ) (o : Option Command) → 0 < length s → command (get_or s 0 0) ≡ o → operand o (drop 1 s) ≡ seen s
-unfolding seen
-cons_seen [] o h e = absurd (let z : ⊥ = omega arith in z)
-cons_seen (b ∷ s) o h e = ap (λ k. operand k s) (sym e)
-
-pub seen_first : (s : List ℕ) (o : Option Command) → 0 < length s → command (get_or s 0 0) ≡ o → operand o (take (length s - 1) (drop 1 s)) ≡ seen s
-seen_first s o h e = ap (operand o) (take_rest s 1) ∙ cons_seen s o h e
-
-pub drop_behind : (w : ℕ) (s : List ℕ) → drop w (take (length s - 1) (drop 1 s)) ≡ drop (w + 1) s
-drop_behind w s =
-    let e : 1 + w ≡ w + 1 = omega arith in
-    ap (drop w) (take_rest s 1) ∙ drop-drop w 1 s ∙ ap (λ k. drop k s) e
+seen_front [] = refl
+seen_front (b ∷ s) = by_command (command b) s

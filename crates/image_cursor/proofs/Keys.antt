@@ -1,33 +1,34 @@
 -- Keys and members, one by one.
-use Rattle.std.proofs.Common.{◌≡◌, ℕ, zero, suc, ◌-◌, ◌<◌, true, false, cond, ◌&&◌, List, Some, None, Option, sym, refl, ap, ◌∙◌, arith}
-use Rattle.image.specs.Decode.{above, seen, then}
-use Rattle.image.specs.Decode as decode
+use Rattle.std.proofs.Common.{◌≡◌, ℕ, zero, suc, ◌-◌, ◌<◌, Bool, true, false, cond, ◌&&◌, List, Some, None, Option, Ordering, Less, Greater, eqb, ltb, [], ◌∷◌, refl, sym, ap, true≢false, ◌∙◌, arith}
+use lib.Pointwise.{pointwise}
+use Rattle.image.specs.Decode.{above, then}
 use Rattle.image_cursor.specs.Checking.{holds, ordered}
-use Rattle.image_cursor.specs.Heads.{meaning}
-use Rattle.image_cursor.specs.Walking.{Keyed, head_text, key_seen, looked_up, skipped}
-use Rattle.image_cursor.specs.declared.head.Head.{Head}
-use Rattle.image_cursor.specs.declared.head.Head.TheVariants.{Null, Bool as BoolHead, Int, Uint, Text, Bytes, Duration, List as ListOf, Map}
-use Rattle.image_cursor.specs.declared.head.Part.{Part}
+use Rattle.image_cursor.specs.Members.{member_above}
+use Rattle.image_cursor.specs.Walking.{Keyed, key_seen, looked_up, skipped}
 use Rattle.order.specs.Bytes.{compare_bytes}
+use Rattle.std.proofs.lemmas.Bool.Decides.{nat_tests}
+use Rattle.std.specs.Option.{option_map}
 use Rattle.std.specs.Ordering.{is_eq}
 
--- a command that is no text's
-pub no_text : (h : Head) → ((p : Part) → h ≡ Text p → ⊥) → head_text (meaning h) ≡ None
-no_text Null n = refl
-no_text (BoolHead b) n = refl
-no_text (Int z) n = refl
-no_text (Uint k) n = refl
-no_text (Text p) n = absurd (n p refl)
-no_text (Bytes p) n = refl
-no_text (Duration z) n = refl
-no_text (ListOf k) n = refl
-no_text (Map k) n = refl
+-- ---- the same bytes
 
-pub key_none : (s : List ℕ) → None ≡ seen s → None ≡ key_seen s
-key_none s e = ap (λ o. then o (λ c. then (head_text c.head) (λ k. Some (record { key = k; rest = c.rest })))) e
+first_less : (x y : ℕ) → ltb x y ≡ true → eqb x y ≡ false
+first_less x y h = grind (arith, nat_tests)
 
-pub key_by : (s : List ℕ) (h : decode.Head) (r : List ℕ) → Some (record { head = h; rest = r }) ≡ seen s → then (head_text h) (λ k. Some (record { key = k; rest = r })) ≡ key_seen s
-key_by s h r e = ap (λ o. then o (λ c. then (head_text c.head) (λ k. Some (record { key = k; rest = c.rest })))) e
+one_byte : (less same t : Bool) (o : Ordering) → (less ≡ true → same ≡ false) → t ≡ is_eq o → (same && t) ≡ is_eq (cond less Less (cond same o Greater))
+one_byte true true t o h e = absurd (true≢false (h refl))
+one_byte true false t o h e = refl
+one_byte false true t o h e = e
+one_byte false false t o h e = refl
+
+-- two texts are the same exactly where they compare as Equal
+pub same_test : (xs ys : List ℕ) → pointwise eqb xs ys ≡ is_eq (compare_bytes xs ys)
+unfolding compare_bytes
+same_test [] [] = refl
+same_test [] (y ∷ ys) = refl
+same_test (x ∷ xs) [] = refl
+same_test (x ∷ xs) (y ∷ ys) =
+    one_byte (ltb x y) (eqb x y) (pointwise eqb xs ys) (compare_bytes xs ys) (first_less x y) (same_test xs ys)
 
 -- ---- one member of a look-up
 
@@ -50,18 +51,28 @@ look_done key s = refl
 
 -- ---- one member of the check
 
-pub order_none : (left : ℕ) (before : Option (List ℕ)) (s : List ℕ) → 0 < left → None ≡ key_seen s → ordered left before s ≡ false
-unfolding ordered
-order_none zero before s h e = absurd (let z : ⊥ = omega arith in z)
-order_none (suc n) before s h e = ap (λ o. holds o (λ k. above before k.key && holds (skipped k.rest) (ordered n (Some k.key)))) (sym e)
+one_member : (n : ℕ) (k : Keyed) (t : Bool) (o : Option (List ℕ)) → (t && holds o (ordered n (Some k.key))) ≡ holds {A = Keyed} (cond t (option_map (λ r. record { key = k.key; rest = r }) o) None) (λ m. ordered n (Some m.key) m.rest)
+one_member n k true None = refl
+one_member n k true (Some r) = refl
+one_member n k false o = refl
 
-pub order_more : (left : ℕ) (before : Option (List ℕ)) (s : List ℕ) (k : Keyed) → 0 < left → Some k ≡ key_seen s → ordered left before s ≡ (above before k.key && holds (skipped k.rest) (ordered (left - 1) (Some k.key)))
+by_member : (n : ℕ) (before : Option (List ℕ)) (o : Option Keyed) → holds o (λ k. above before k.key && holds (skipped k.rest) (ordered n (Some k.key))) ≡ holds {A = Keyed} (then o (λ k. cond (above before k.key) (option_map (λ r. record { key = k.key; rest = r }) (skipped k.rest)) None)) (λ m. ordered n (Some m.key) m.rest)
+by_member n before None = refl
+by_member n before (Some k) = one_member n k (above before k.key) (skipped k.rest)
+
+order_turn : (n : ℕ) (before : Option (List ℕ)) (s : List ℕ) → ordered (suc n) before s ≡ holds (member_above before s) (λ m. ordered n (Some m.key) m.rest)
 unfolding ordered
-order_more zero before s k h e = absurd (let z : ⊥ = omega arith in z)
-order_more (suc n) before s k h e =
-    let m : n ≡ suc n - 1 = omega arith in
-    ap (λ o. holds o (λ k. above before k.key && holds (skipped k.rest) (ordered n (Some k.key)))) (sym e)
-    ∙ ap (λ j. above before k.key && holds (skipped k.rest) (ordered j (Some k.key))) m
+order_turn n before s = by_member n before (key_seen s)
+
+pub order_none : (left : ℕ) (before : Option (List ℕ)) (s : List ℕ) → 0 < left → None ≡ member_above before s → ordered left before s ≡ false
+order_none zero before s h e = absurd (let z : ⊥ = omega arith in z)
+order_none (suc n) before s h e = order_turn n before s ∙ ap (λ o. holds o (λ m. ordered n (Some m.key) m.rest)) (sym e)
+
+pub order_more : (left : ℕ) (before : Option (List ℕ)) (s : List ℕ) (m : Keyed) → 0 < left → Some m ≡ member_above before s → ordered left before s ≡ ordered (left - 1) (Some m.key) m.rest
+order_more zero before s m h e = absurd (let z : ⊥ = omega arith in z)
+order_more (suc n) before s m h e =
+    let less : n ≡ suc n - 1 = omega arith in
+    order_turn n before s ∙ ap (λ o. holds o (λ m. ordered n (Some m.key) m.rest)) (sym e) ∙ ap (λ j. ordered j (Some m.key) m.rest) less
 
 pub order_done : (before : Option (List ℕ)) (s : List ℕ) → ordered 0 before s ≡ true
 unfolding ordered

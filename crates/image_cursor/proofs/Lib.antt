@@ -3,10 +3,9 @@ pub mod CursorLaws
 pub mod Fronts
 pub mod Images
 pub mod Keys
+pub mod Lengths
 pub mod Octets
-pub mod Parts
 pub mod Positions
 pub mod Scoping
 pub mod Turns
 pub mod Walks
-pub mod Wholes

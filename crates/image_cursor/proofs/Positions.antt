@@ -1,28 +1,31 @@
--- What was read at a position, and where the cursor then stands.
-use Rattle.std.proofs.Common.{◌≡◌, ℕ, ◌+◌, ◌-◌, ◌<◌, ◌≤◌, List, [], length, drop, IfSome, Some, None, Option, sym, ap, ◌∙◌, arith, length-drop, length-take}
+-- Where a cursor stands behind what it read.
+use Rattle.std.proofs.Common.{◌≡◌, ℕ, ◌<◌, List, length, drop, IfSome, Some, None, Option, sym, ap, ◌∙◌, arith, length-drop}
 use Rattle.image.specs.Decode.{seen}
-use Rattle.image_cursor.proofs.Fronts.{seen_empty}
-use Rattle.image_cursor.proofs.Turns.{drop_from, from}
-use Rattle.image_cursor.specs.Heads.{Placed, meaning, seen_at, seen_behind}
-use Rattle.image_cursor.specs.Walking.{left_off}
-use Rattle.image_cursor.specs.declared.head.Reading.{Reading}
-use Rattle.std.proofs.lemmas.List.{drop_all, take_rest}
-use Rattle.std.specs.Option.{option_map}
+use Rattle.image_cursor.proofs.Lengths.{sought_shorter}
+use Rattle.image_cursor.proofs.Walks.{past_shorter, seen_shorter}
+use Rattle.image_cursor.specs.Heads.{seen_by}
+use Rattle.image_cursor.specs.Tails.{SameEnd, bytes_left}
+use Rattle.image_cursor.specs.Walking.{any, left_off, skipped, sought}
+use Rattle.image_cursor.specs.declared.head.Head.{Head}
+use Rattle.image_cursor.specs.declared.tail.Tail.{Tail}
+use Rattle.std.specs.Option.{option_map, option_map_or}
 
--- the cursor stands where the rest begins
-pub stands : (s : List ℕ) (at end : ℕ) (o : Option (List ℕ)) → end ≤ length s → Some (drop end s) ≡ o → end ≡ left_off s at o
-stands s at end o h e =
-    let here : end ≡ length s - length (drop end s) = omega (arith, length-drop end s) in
-    here ∙ ap (left_off s at) e
+module _ (bs : List ℕ) (at : ℕ) (from : Tail) (rest : from.rest.now ≡ drop at bs) (place : from.place ≡ at) where
+  -- at the end of what was left, less what is
+  stands : (to : Tail) → SameEnd from to → length to.rest.now < length (drop at bs) → to.place ≡ left_off bs at (Some to.rest.now)
+  stands to e h = omega (arith, ap length rest, length-drop at bs)
 
-module _ (bs : List ℕ) (at : ℕ) where
-  pub none_beyond : length bs < at → None ≡ seen (drop at bs)
-  none_beyond h = seen_empty [] (omega arith) ∙ ap seen (sym (drop_all at bs (omega arith)))
+  pub read_to : (h : Head) (to : Tail) → SameEnd from to → Some (seen_by (h, to)) ≡ seen from.rest.now → to.place ≡ left_off bs at (option_map (λ c. c.rest) (seen (drop at bs)))
+  read_to h to e v =
+      let w = v ∙ ap seen rest in
+      stands to e (seen_shorter (drop at bs) (seen_by (h, to)) (sym w)) ∙ ap (λ o. left_off bs at (option_map (λ c. c.rest) o)) w
 
-  pub read_at : (r : Option Reading) → option_map (seen_behind (from bs at)) r ≡ seen (from bs at) → option_map (seen_at bs at) r ≡ seen (drop at bs)
-  read_at None e = e ∙ ap seen (take_rest bs at)
-  read_at (Some r) e = ap (λ t. Some (record { head = meaning r.head; rest = t })) (sym (drop_from r.width bs at)) ∙ e ∙ ap seen (take_rest bs at)
+  gone : (o : Option (List ℕ)) (to : Option Tail) → IfSome to (λ t. SameEnd from t) → bytes_left to ≡ o → ((r : List ℕ) → o ≡ Some r → length r < length (drop at bs)) → option_map_or (λ t. t.place) to at ≡ left_off bs at o
+  gone o None e v s = ap (left_off bs at) v
+  gone o (Some t) e v s = stands t e (s t.rest.now (sym v)) ∙ ap (left_off bs at) v
 
-  pub within_at : (r : Option Reading) → at ≤ length bs → IfSome r (λ x. (0 < x.width) × (x.width ≤ length (from bs at)) × Placed (at + 5) x.head) → IfSome r (λ x. (at + x.width ≤ length bs) × Placed (at + 5) x.head)
-  within_at None h w = tt
-  within_at (Some r) h w = (omega (arith, w.1, length-take (length bs - at) (drop at bs), length-drop at bs), w.2)
+  pub skipped_to : (to : Option Tail) → IfSome to (λ t. SameEnd from t) → bytes_left to ≡ skipped from.rest.now → option_map_or (λ t. t.place) to at ≡ left_off bs at (skipped (drop at bs))
+  skipped_to to e v = gone (skipped (drop at bs)) to e (v ∙ ap skipped rest) (λ r p. past_shorter any (drop at bs) r p)
+
+  pub sought_to : (key : List ℕ) (to : Option Tail) → IfSome to (λ t. SameEnd from t) → bytes_left to ≡ sought key from.rest.now → option_map_or (λ t. t.place) to at ≡ left_off bs at (sought key (drop at bs))
+  sought_to key to e v = gone (sought key (drop at bs)) to e (v ∙ ap (sought key) rest) (λ r p. sought_shorter key (drop at bs) r p)

@@ -99,6 +99,11 @@ module _ (ok : Head → List ℕ → Bool) where
       let t = if_then (ok c.mid.head c.mid.rest) (walk ok (parts c.mid.head + k) f c.mid.rest) r c.gives in
       omega (arith, walk_few (parts c.mid.head + k) f c.mid.rest r t.1, seen_shorter s c.mid c.was)
 
+  -- what stands behind a value is shorter
+  pub past_shorter : (s r : List ℕ) → past ok 1 s ≡ Some r → length r < length s
+  unfolding past
+  past_shorter s r e = omega (arith, walk_few 1 (length s) s r e)
+
   too_many : (k : ℕ) (s : List ℕ) (o : Option (List ℕ)) → past ok k s ≡ o → length s < k → o ≡ None
   unfolding past
   too_many k s None e h = refl

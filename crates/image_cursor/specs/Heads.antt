@@ -1,11 +1,11 @@
 -- What a command that was read says.
-use Rattle.std.specs.Prelude.{◌≡◌, ℕ, ◌+◌, List, drop}
+use Rattle.std.specs.Prelude.{◌≡◌, ℕ}
 use Rattle.image.specs.Decode.{Seen, lone, items, members}
 use Rattle.image.specs.Decode as decode
 use Rattle.image.specs.Typed.{null, bool, int, uint, text, bytes, duration}
 use Rattle.image_cursor.specs.declared.head.Head.{Head}
 use Rattle.image_cursor.specs.declared.head.Head.TheVariants.{Null, Bool, Int, Uint, Text, Bytes, Duration, List as ListOf, Map}
-use Rattle.image_cursor.specs.declared.head.Reading.{Reading}
+use Rattle.image_cursor.specs.declared.tail.Tail.{Tail}
 
 -- the command and its operand
 abbrev pub meaning : Head → decode.Head
@@ -24,12 +24,8 @@ abbrev pub parts_of : Head → ℕ
 parts_of h = decode.parts (meaning h)
 
 -- the command with the bytes behind it
-abbrev pub seen_behind : List ℕ → Reading → Seen
-seen_behind s r = record { head = meaning r.head; rest = drop r.width s }
-
--- the same where the command stands at `at`
-abbrev pub seen_at : List ℕ → ℕ → Reading → Seen
-seen_at s at r = record { head = meaning r.head; rest = drop (at + r.width) s }
+abbrev pub seen_by : Head × Tail → Seen
+seen_by r = record { head = meaning r.0; rest = r.1.rest.now }
 
 -- a text's bytes begin at `place`
 abbrev pub Placed : ℕ → Head → Type 0

@@ -4,4 +4,5 @@ pub mod Laws
 pub mod Members
 pub mod Operands
 pub mod Scopes
+pub mod Tails
 pub mod Walking

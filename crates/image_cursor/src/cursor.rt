@@ -4,11 +4,10 @@ ghost use Rattle.image.specs.Decode.{seen};
 ghost use Rattle.image_cursor.specs.Heads.{Placed, meaning};
 ghost use Rattle.image_cursor.specs.Laws.{FindsMembers, ReadsImages, SkipsImages};
 ghost use Rattle.image_cursor.specs.Walking.{left_off, skipped, sought};
-ghost use Rattle.std.specs.Option.{option_map};
+ghost use Rattle.std.specs.Option.{option_map, option_map_or};
 
-use crate::head::{Head, head_at};
-use crate::members::look_up;
-use crate::skip::end_of;
+use crate::head::Head;
+use crate::tail::Tail;
 
 #[derive(Clone, Copy)]
 pub struct Cursor<'a> {
@@ -42,11 +41,9 @@ impl<'a> Cursor<'a> {
         ensures at { self.new.at ≡ left_off self.old.bytes.now self.old.at (option_map (λ c. c.rest) (seen (drop self.old.at self.old.bytes.now))) }
         ensures bytes { self.new.bytes.now ≡ self.old.bytes.now }
     {
-        let Some(reading) = head_at(self.bytes, self.at) else {
-            return None;
-        };
-        self.at += reading.width;
-        Some(reading.head)
+        let (head, behind) = self.tail().head()?;
+        self.at = behind.place;
+        Some(head)
     }
 
     // Goes behind the value that stands at the cursor, or stays where there is no whole one.
@@ -55,11 +52,7 @@ impl<'a> Cursor<'a> {
         ensures at { self.new.at ≡ left_off self.old.bytes.now self.old.at (skipped (drop self.old.at self.old.bytes.now)) }
         ensures bytes { self.new.bytes.now ≡ self.old.bytes.now }
     {
-        let Some(end) = end_of(self.bytes, self.at) else {
-            return false;
-        };
-        self.at = end;
-        true
+        self.go(self.tail().skipped())
     }
 
     // Goes from a map's command to the value whose key is `key`, or stays where there is none.
@@ -68,16 +61,26 @@ impl<'a> Cursor<'a> {
         ensures at { self.new.at ≡ left_off self.old.bytes.now self.old.at (sought key.now (drop self.old.at self.old.bytes.now)) }
         ensures bytes { self.new.bytes.now ≡ self.old.bytes.now }
     {
-        let Some(reading) = head_at(self.bytes, self.at) else {
+        self.go(self.tail().sought(key))
+    }
+
+    fn tail(&self) -> Tail<'a>
+        ensures rest { result.rest.now ≡ drop self.now.at self.now.bytes.now }
+        ensures place { result.place ≡ self.now.at }
+    {
+        Tail::of(self.bytes, self.at)
+    }
+
+    // Goes where `to` begins, or stays where there is none.
+    fn go(&mut self, to: Option<Tail<'_>>) -> bool
+        ensures ok { result ≡ is_some to.entry }
+        ensures at { self.new.at ≡ option_map_or (λ t. t.place) to.entry self.old.at }
+        ensures bytes { self.new.bytes.now ≡ self.old.bytes.now }
+    {
+        let Some(tail) = to else {
             return false;
         };
-        let Head::Map(count) = reading.head else {
-            return false;
-        };
-        let Some(place) = look_up(self.bytes, self.at + reading.width, count, key) else {
-            return false;
-        };
-        self.at = place;
+        self.at = tail.place;
         true
     }
 }

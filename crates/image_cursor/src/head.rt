@@ -1,10 +1,12 @@
 // One command of an image with its operand, read where it lies.
-ghost use Rattle.std.specs.Prelude.{◌≡◌, ◌+◌, ◌^◌, ◌<◌, ◌≤◌, length, drop, IfSome, Some};
+ghost use Rattle.std.specs.Prelude.{◌≡◌, ◌+◌, ◌^◌, ◌<◌, IfSome, Some};
 ghost use Rattle.image.specs.Decode.{operand as operand_of, seen};
-ghost use Rattle.image_cursor.specs.Operands.{PartIn, front_part, front4, front8};
-ghost use Rattle.image_cursor.specs.Heads.{Placed, parts_of, seen_at, seen_behind};
+ghost use Rattle.image_cursor.specs.Heads.{Placed, parts_of, seen_by};
+ghost use Rattle.image_cursor.specs.Operands.{front4, front8, front_command, front_part};
+ghost use Rattle.image_cursor.specs.Tails.{SameEnd, left};
 ghost use Rattle.std.specs.Option.{option_map};
 
+use crate::tail::Tail;
 use image::command::Command;
 
 // Bytes of an image, with the position at which they begin.
@@ -28,128 +30,115 @@ pub enum Head<'a> {
     Map(u32),
 }
 
-// A command that was read, and how many bytes it takes.
-#[derive(Clone, Copy)]
-pub(crate) struct Reading<'a> {
-    pub head: Head<'a>,
-    pub width: usize,
-}
-
-// What was read, in `width` bytes.
-fn took(head: Head<'_>, width: usize) -> Reading<'_>
-    ensures { result ≡ record { head = head.entry; width = width } }
-{
-    Reading { head, width }
-}
-
-// The number in the first four bytes.
-fn four(bytes: &[u8]) -> Option<u32>
-    ensures { result ≡ front4 bytes.now }
-{
-    let [a, b, c, d, ..] = bytes else {
-        return None;
-    };
-    Some(u32::from_be_bytes([*a, *b, *c, *d]))
-}
-
-// The number in the first eight bytes.
-fn eight(bytes: &[u8]) -> Option<u64>
-    ensures { result ≡ front8 bytes.now }
-{
-    let [a, b, c, d, e, f, g, h, ..] = bytes else {
-        return None;
-    };
-    Some(u64::from_be_bytes([*a, *b, *c, *d, *e, *f, *g, *h]))
-}
-
-// So many bytes as the first four say, behind these; `rest` begins at `place`.
-fn sized(rest: &[u8], place: usize) -> Option<Part<'_>>
-    requires { place + length rest.now < 2 ^ 64 }
-    ensures text { option_map (λ p. p.text.now) result ≡ front_part rest.now }
-    ensures within { IfSome result (λ p. PartIn place (length rest.now) p.place (length p.text.now)) }
-{
-    let Some(len) = four(rest) else {
-        return None;
-    };
-    let len = len as usize;
-    if rest.len() - 4 < len {
-        return None;
-    }
-    let end = 4 + len;
-    let text = &rest[4..end];
-    Some(Part {
-        text,
-        place: place + 4,
-    })
-}
-
-// The operand of a command, at the front of `rest`, which begins at `place`.
-fn operand(command: Command, rest: &[u8], place: usize) -> Option<Reading<'_>>
-    requires { place + length rest.now < 2 ^ 64 }
-    ensures value { option_map (seen_behind rest.now) result ≡ operand_of (Some command) rest.now }
-    ensures within { IfSome result (λ x. (x.width ≤ length rest.now) × Placed (place + 4) x.head) }
-{
-    match command {
-        Command::Null => Some(took(Head::Null, 0)),
-        Command::False => Some(took(Head::Bool(false), 0)),
-        Command::True => Some(took(Head::Bool(true), 0)),
-        Command::Int => Some(took(Head::Int(eight(rest)?.cast_signed()), 8)),
-        Command::Uint => Some(took(Head::Uint(eight(rest)?), 8)),
-        Command::Duration => Some(took(Head::Duration(eight(rest)?.cast_signed()), 8)),
-        Command::List => Some(took(Head::List(four(rest)?), 4)),
-        Command::Map => Some(took(Head::Map(four(rest)?), 4)),
-        Command::Text => {
-            let part = sized(rest, place)?;
-            Some(took(Head::Text(part), 4 + part.text.len()))
+impl Head<'_> {
+    // How many values stand behind a command until its value is whole; a key counts as a value.
+    pub(crate) fn parts(self) -> usize
+        ensures value { result ≡ parts_of self.entry }
+        ensures small { result < 2 ^ 33 }
+    {
+        match self {
+            Head::List(n) => n as usize,
+            Head::Map(n) => 2 * n as usize,
+            _ => 0,
         }
-        Command::Bytes => {
-            let part = sized(rest, place)?;
-            Some(took(Head::Bytes(part), 4 + part.text.len()))
+    }
+}
+
+// Each of these reads a thing at the front, and answers it with what stands behind it.
+impl<'a> Tail<'a> {
+    // A byte that stands for a command.
+    pub(crate) fn command(self) -> Option<(Command, Tail<'a>)>
+        ensures value { option_map left result ≡ front_command self.entry.rest.now }
+        ensures end { IfSome result (λ r. SameEnd self.entry r.1) }
+    {
+        let command = Command::try_from(*self.rest.first()?).ok()?;
+        Some((command, self.behind(1)))
+    }
+
+    // A number in four bytes.
+    fn four(self) -> Option<(u32, Tail<'a>)>
+        ensures value { option_map left result ≡ front4 self.entry.rest.now }
+        ensures end { IfSome result (λ r. SameEnd self.entry r.1) }
+    {
+        let four = self.rest.first_chunk::<4>()?;
+        Some((u32::from_be_bytes(*four), self.behind(4)))
+    }
+
+    // A number in eight bytes.
+    fn eight(self) -> Option<(u64, Tail<'a>)>
+        ensures value { option_map left result ≡ front8 self.entry.rest.now }
+        ensures end { IfSome result (λ r. SameEnd self.entry r.1) }
+    {
+        let eight = self.rest.first_chunk::<8>()?;
+        Some((u64::from_be_bytes(*eight), self.behind(8)))
+    }
+
+    // A length in four bytes, and so many bytes.
+    fn part(self) -> Option<(Part<'a>, Tail<'a>)>
+        ensures value { option_map (λ r. (r.0.text.now, r.1.rest.now)) result ≡ front_part self.entry.rest.now }
+        ensures place { IfSome result (λ r. r.0.place ≡ self.entry.place + 4) }
+        ensures end { IfSome result (λ r. SameEnd self.entry r.1) }
+    {
+        let (len, from) = self.four()?;
+        let len = len as usize;
+        let text = from.rest.get(..len)?;
+        let part = Part {
+            text,
+            place: from.place,
+        };
+        Some((part, from.behind(len)))
+    }
+
+    // The operand of a command.
+    fn operand(self, command: Command) -> Option<(Head<'a>, Tail<'a>)>
+        ensures value { option_map seen_by result ≡ operand_of (Some command) self.entry.rest.now }
+        ensures place { IfSome result (λ r. Placed (self.entry.place + 4) r.0) }
+        ensures end { IfSome result (λ r. SameEnd self.entry r.1) }
+    {
+        match command {
+            Command::Null => Some((Head::Null, self)),
+            Command::False => Some((Head::Bool(false), self)),
+            Command::True => Some((Head::Bool(true), self)),
+            Command::Int => {
+                let (n, behind) = self.eight()?;
+                Some((Head::Int(n.cast_signed()), behind))
+            }
+            Command::Uint => {
+                let (n, behind) = self.eight()?;
+                Some((Head::Uint(n), behind))
+            }
+            Command::Duration => {
+                let (n, behind) = self.eight()?;
+                Some((Head::Duration(n.cast_signed()), behind))
+            }
+            Command::List => {
+                let (count, behind) = self.four()?;
+                Some((Head::List(count), behind))
+            }
+            Command::Map => {
+                let (count, behind) = self.four()?;
+                Some((Head::Map(count), behind))
+            }
+            Command::Text => {
+                let (part, behind) = self.part()?;
+                Some((Head::Text(part), behind))
+            }
+            Command::Bytes => {
+                let (part, behind) = self.part()?;
+                Some((Head::Bytes(part), behind))
+            }
+            Command::Empty | Command::Present | Command::Own | Command::Old => None,
         }
-        Command::Empty | Command::Present | Command::Own | Command::Old => None,
     }
-}
 
-// The command at the front of `rest`, which begins at `place`.
-pub(crate) fn head_of(rest: &[u8], place: usize) -> Option<Reading<'_>>
-    requires { place + length rest.now < 2 ^ 64 }
-    ensures value { option_map (seen_behind rest.now) result ≡ seen rest.now }
-    ensures within { IfSome result (λ x. (0 < x.width) × (x.width ≤ length rest.now) × Placed (place + 5) x.head) }
-{
-    let [byte, behind @ ..] = rest else {
-        return None;
-    };
-    let Some(command) = Command::of(*byte) else {
-        return None;
-    };
-    let Some(reading) = operand(command, behind, place + 1) else {
-        return None;
-    };
-    Some(Reading {
-        head: reading.head,
-        width: reading.width + 1,
-    })
-}
-
-// The command at `at`.
-pub(crate) fn head_at(bytes: &[u8], at: usize) -> Option<Reading<'_>>
-    ensures value { option_map (seen_at bytes.now at) result ≡ seen (drop at bytes.now) }
-    ensures within { IfSome result (λ x. (at + x.width ≤ length bytes.now) × Placed (at + 5) x.head) }
-{
-    if bytes.len() < at {
-        return None;
-    }
-    head_of(&bytes[at..], at)
-}
-
-// How many values stand behind a command until its value is whole; a key counts as a value.
-pub(crate) fn parts(head: Head<'_>) -> usize
-    ensures value { result ≡ parts_of head.entry }
-    ensures small { result < 2 ^ 33 }
-{
-    match head {
-        Head::List(n) => n as usize,
-        Head::Map(n) => 2 * n as usize,
-        _ => 0,
+    // A command with its operand.
+    #[tactic(auto, using(crate::proofs::Fronts::seen_front))]
+    pub(crate) fn head(self) -> Option<(Head<'a>, Tail<'a>)>
+        ensures value { option_map seen_by result ≡ seen self.entry.rest.now }
+        ensures place { IfSome result (λ r. Placed (self.entry.place + 5) r.0) }
+        ensures end { IfSome result (λ r. SameEnd self.entry r.1) }
+    {
+        let (command, behind) = self.command()?;
+        behind.operand(command)
     }
 }

@@ -7,6 +7,7 @@ pub mod head;
 mod members;
 pub mod scope;
 mod skip;
+mod tail;
 
 pub use cursor::Cursor;
 pub use head::{Head, Part};

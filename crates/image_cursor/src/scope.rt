@@ -1,13 +1,14 @@
 // Checks that bytes are a scope, and says where its parts stand.
-ghost use Rattle.std.specs.Prelude.{◌≡◌, ◌≤◌, length, drop, is_some};
-ghost use Rattle.image.specs.Decode.{decoded_old, decoded_optional, decoded_scope, then, whole};
+ghost use Rattle.std.specs.Prelude.{◌≡◌, ℕ, List, drop, is_some};
+ghost use Rattle.image.specs.Decode.{decoded_old, decoded_optional, decoded_scope, then};
 ghost use Rattle.image.specs.Laws.{DecodesScopes};
 ghost use Rattle.image_cursor.specs.Scopes.{old_at, scope_at};
 
-use crate::check::checked_end;
+use crate::tail::Tail;
 use image::command::Command;
 
-// What oldSelf is: a value's image begins at the position, or at `Present` that of an optional.
+// What oldSelf is: a value's image begins at the position, or at `Present` that of an optional. One enum for the
+// four, since an `Option` for each of them would have its reader answer an option of an option of an option.
 #[derive(Clone, Copy, PartialEq, Eq, Debug)]
 pub enum OldPlace {
     Absent,
@@ -23,58 +24,34 @@ pub struct ScopeParts {
     pub old: OldPlace,
 }
 
-// Whether the bytes from `at` on are one value's image, with none left over.
-fn is_whole(bytes: &[u8], at: usize) -> bool
-    ensures { result ≡ is_some (whole (drop at bytes.now)) }
-{
-    let Some(end) = checked_end(bytes, at) else {
-        return false;
-    };
-    end == bytes.len()
-}
-
-// What stands behind the command of oldSelf.
-fn read_optional(bytes: &[u8], at: usize) -> Option<OldPlace>
-    requires { at ≤ length bytes.now }
-    ensures old { decoded_optional (drop at bytes.now) ≡ then result (old_at bytes.now) }
-    ensures ok { is_some result ≡ is_some (decoded_optional (drop at bytes.now)) }
-{
-    if at == bytes.len() {
-        return None;
-    }
-    let byte = bytes[at];
-    let behind = at + 1;
-    if byte == Command::Empty.byte() {
-        if behind == bytes.len() {
-            return Some(OldPlace::Empty);
+impl Tail<'_> {
+    // What stands behind the command of oldSelf.
+    #[tactic(auto, using(crate::proofs::Scoping::optional_none, crate::proofs::Scoping::present_at, crate::proofs::Scoping::present_ok))]
+    fn optional(self) -> Option<OldPlace>
+        ensures old { (bytes : List ℕ) → self.entry.rest.now ≡ drop self.entry.place bytes → decoded_optional self.entry.rest.now ≡ then result (old_at bytes) }
+        ensures ok { is_some result ≡ is_some (decoded_optional self.entry.rest.now) }
+    {
+        let (command, behind) = self.command()?;
+        match command {
+            Command::Empty => behind.rest.is_empty().then_some(OldPlace::Empty),
+            Command::Present => behind.is_whole().then_some(OldPlace::Present(behind.place)),
+            _ => self.is_whole().then_some(OldPlace::Plain(self.place)),
         }
-        return None;
     }
-    if byte == Command::Present.byte() {
-        if is_whole(bytes, behind) {
-            return Some(OldPlace::Present(behind));
-        }
-        return None;
-    }
-    if is_whole(bytes, at) {
-        return Some(OldPlace::Plain(at));
-    }
-    None
-}
 
-// What stands behind the image of self.
-fn read_old(bytes: &[u8], at: usize) -> Option<OldPlace>
-    requires { at ≤ length bytes.now }
-    ensures old { decoded_old (drop at bytes.now) ≡ then result (old_at bytes.now) }
-    ensures ok { is_some result ≡ is_some (decoded_old (drop at bytes.now)) }
-{
-    if at == bytes.len() {
-        return Some(OldPlace::Absent);
+    // What stands behind the image of self.
+    fn old(self) -> Option<OldPlace>
+        ensures old { (bytes : List ℕ) → self.entry.rest.now ≡ drop self.entry.place bytes → decoded_old self.entry.rest.now ≡ then result (old_at bytes) }
+        ensures ok { is_some result ≡ is_some (decoded_old self.entry.rest.now) }
+    {
+        if self.rest.is_empty() {
+            return Some(OldPlace::Absent);
+        }
+        match self.command()? {
+            (Command::Old, behind) => behind.optional(),
+            _ => None,
+        }
     }
-    if bytes[at] != Command::Old.byte() {
-        return None;
-    }
-    read_optional(bytes, at + 1)
 }
 
 // The parts of the scope that the bytes are; none exactly where they are no scope.
@@ -83,18 +60,13 @@ pub fn read_scope(bytes: &[u8]) -> Option<ScopeParts>
     ensures ok { is_some result ≡ is_some (decoded_scope bytes.now) }
     ensures lawful { DecodesScopes }
 {
-    let [first, ..] = bytes else {
-        return None;
-    };
-    if *first != Command::Own.byte() {
+    let (command, own) = Tail::of(bytes, 0).command()?;
+    if command != Command::Own {
         return None;
     }
-    let own = 1;
-    let Some(end) = checked_end(bytes, own) else {
-        return None;
-    };
-    let Some(old) = read_old(bytes, end) else {
-        return None;
-    };
-    Some(ScopeParts { own, old })
+    let old = own.checked()?.old()?;
+    Some(ScopeParts {
+        own: own.place,
+        old,
+    })
 }

@@ -1,17 +1,7 @@
-use Rattle.std.proofs.Common.{drop, refl, ap}
-use Rattle.image_cursor.proofs.Positions.{stands}
-use Rattle.image.specs.Decode.{Seen, seen}
-use Rattle.std.specs.Option.{option_map}
+use Rattle.image_cursor.proofs.Positions.{read_to}
 use Rattle.image_cursor.proofs.cursor.Cursor.read.Goals as goal
 
-pub returns : goal.returns
-returns c =
-    let bs = c.args.self.now.bytes.now in
-    let at = c.args.self.now.at in
-    let e = c.in-Some.ensures in
-    record {
-      head = ap (option_map (λ (s : Seen). s.head)) e.value;
-      place = e.within.1;
-      at = stands bs at _ (option_map (λ (s : Seen). s.rest) (seen (drop at bs))) e.within.0 (ap (option_map (λ (s : Seen). s.rest)) e.value);
-      bytes = refl;
-    }
+pub returns-clause-at : goal.returns-clause-at
+returns-clause-at c =
+    let was = c.args.self.now in
+    read_to was.bytes.now was.at c.tail.result c.tail.ensures.rest c.tail.ensures.place c.in_ok-head.head c.in_ok-head.behind c.in_ok-head.ensures.end c.in_ok-head.ensures.value

@@ -4,7 +4,6 @@ use Rattle.json_values.specs.Value.{Value}
 use Rattle.json_values.specs.declared.parts.Source.{Source}
 use Rattle.json_values.specs.declared.table.Entry.{Entry}
 use Rattle.json_values.specs.Meaning.{value_at}
-use Rattle.json_reader.specs.Reading.{Outcome}
 use Rattle.json_reader.specs.declared.fault.Fault.{Fault}
 use Rattle.json_round_trip.proofs.Trips.{reads_back}
 use Rattle.json_round_trip.specs.Copied.{Copies, Leaves}

@@ -23,12 +23,13 @@ fn read_copied_and_written(rt: HostRuntime) -> Result<(), Fail> {
     let schema = Store::new(heap)?;
     let mut older = Store::new(heap)?;
     let mut copies: Table = Table::new(heap)?;
+    let stores = Stores {
+        schema: &schema,
+        record: &record,
+        older: &schema,
+    };
     let view = View {
-        stores: Stores {
-            schema: &schema,
-            record: &record,
-            older: &schema,
-        },
+        stores,
         entries: table.as_slice(),
     };
     let Ok(copy) = copy_value(
@@ -42,12 +43,13 @@ fn read_copied_and_written(rt: HostRuntime) -> Result<(), Fail> {
     ) else {
         return Err(Fail::new("not copied"));
     };
+    let stores = Stores {
+        schema: &schema,
+        record: &schema,
+        older: &older,
+    };
     let copied = View {
-        stores: Stores {
-            schema: &schema,
-            record: &schema,
-            older: &older,
-        },
+        stores,
         entries: copies.as_slice(),
     };
     let mut out = Vec::new(heap);

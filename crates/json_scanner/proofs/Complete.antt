@@ -4,7 +4,6 @@ use Rattle.std.proofs.lemmas.Bool.{cond_both, or_from, or_parts, leb-false, leb-
 use Rattle.std.proofs.lemmas.Bool.Decides.{nat_tests}
 use Rattle.json_scanner.specs.declared.modes.Role.TheVariants as role
 use Rattle.json_scanner.specs.declared.modes.Inside.TheVariants as inside
-use Rattle.json_scanner.specs.declared.modes.Word.TheVariants as word
 use Rattle.json_scanner.specs.declared.modes.Mode.{Mode}
 use Rattle.json_scanner.specs.declared.modes.Mode.TheVariants as mode
 use Rattle.json_scanner.specs.declared.modes.Act.{Act}
@@ -181,15 +180,9 @@ module _ (N : ℕ) (P : Result Tree Fault → Type 0) where
   mutual
     pub value-run : {v : Tree} {s : List ℕ} → Value v s → (f : Frame) (bs : List Frame) (n : ℕ) (rest : List ℕ) → Stops rest → Bad (Fit (length bs) n v) rest
         → ((j m : ℕ) → m ≡ n + size v → m ≤ 4096 → over (length bs) v ≡ false → Goes N P (after (put f v) bs m) j rest) → (i : ℕ) → Goes N P (want f bs n) i (s ++ rest)
-    value-run Value.null_word f bs n rest sp bad k i =
-        beginning-run f bs n i 110 (117 ∷ 108 ∷ 108 ∷ rest) rest _ (mode.Word word.N) (behind_le (117 ∷ 108 ∷ 108 ∷ []) rest) refl (λ fit. let h = fit.1 in omega arith) bad
-        (λ lt eq. k (i + 1 + 1 + 1 + 1) (n + 1) refl (omega arith) refl (omega arith))
-    value-run Value.true_word f bs n rest sp bad k i =
-        beginning-run f bs n i 116 (114 ∷ 117 ∷ 101 ∷ rest) rest _ (mode.Word word.T) (behind_le (114 ∷ 117 ∷ 101 ∷ []) rest) refl (λ fit. let h = fit.1 in omega arith) bad
-        (λ lt eq. k (i + 1 + 1 + 1 + 1) (n + 1) refl (omega arith) refl (omega arith))
-    value-run Value.false_word f bs n rest sp bad k i =
-        beginning-run f bs n i 102 (97 ∷ 108 ∷ 115 ∷ 101 ∷ rest) rest _ (mode.Word word.F) (behind_le (97 ∷ 108 ∷ 115 ∷ 101 ∷ []) rest) refl (λ fit. let h = fit.1 in omega arith) bad
-        (λ lt eq. k (i + 1 + 1 + 1 + 1 + 1) (n + 1) refl (omega arith) refl (omega arith))
+    value-run Value.null_word f bs n rest sp bad k i = grind (arith, nat_tests)
+    value-run Value.true_word f bs n rest sp bad k i = grind (arith, nat_tests)
+    value-run Value.false_word f bs n rest sp bad k i = grind (arith, nat_tests)
     value-run (Value.whole {g = g} {n = amount} {s = s} w) f bs n rest sp bad k i = λ eq.
         let lt : i + length rest < N = begun_lt N i s rest (begun_number (whole-opens w)) eq in
         whole_run N P f bs n rest i w (λ un. bad (λ fit. absurd (false≢true (sym fit.0 ∙ un))) (fault.Number i) tt lt)

@@ -17,7 +17,7 @@ use Rattle.json_scanner.specs.declared.modes.Fault.TheVariants as fault
 use Rattle.json_scanner.specs.declared.modes.Ready.{Ready}
 use Rattle.json_scanner.specs.Grammar.{Tree, nil, none, white, Blank, Numeral, Whole, Chars, Value, Viable}
 use Rattle.json_scanner.specs.Bytes.{Moved, opening, beginning, judged, broken_off, figured, figure, settled, readied, still, then}
-use Rattle.json_scanner.specs.Machine.{State, Frame, bare, items, fields, field, kinds, surroundings, carried, stepped, step, prepared, ended, run, start}
+use Rattle.json_scanner.specs.Machine.{State, Frame, bare, items, fields, field, kinds, surroundings, carried, stepped, step, prepared, run, start}
 use Rattle.json_scanner.specs.Faults.{place_of, number_of, CountsFirst, Inner, Place, top, within, values_before, starts, Unfit, Breaks, Nests, Misfits, Crowds, Faulty}
 use Rattle.json_scanner.proofs.Numbers.{Opens, whole-opens, real_opens, opens-starts}
 use Rattle.json_scanner.proofs.Shape.{Right, kinds-length}
@@ -100,7 +100,7 @@ module _ (P : Result Tree Fault → Type 0) (from : ℕ) (f : Frame) (bs : List 
   -- the end of an integer, or none
   settled_crowded : (g : Figures) (k : Ready → Result Tree Fault) → P (k (still (mode.Number g from) n)) → P (then (settled (mode.Number g from) n) k)
   settled_crowded figures.Minus k h = h
-  settled_crowded (figures.Whole x y) k h = subst (λ r. P (then r k)) (sym (cond-true (leb 4096 n) _ _ many)) crowded
+  settled_crowded (figures.Whole x y) k h = grind (arith, nat_tests)
   settled_crowded figures.Point k h = h
   settled_crowded figures.Power k h = h
   settled_crowded figures.Sign k h = h
@@ -110,7 +110,7 @@ module _ (P : Result Tree Fault → Type 0) (from : ℕ) (f : Frame) (bs : List 
   then-then (Err e) k l = refl
 
   number_crowded : (l : List ℕ) (g : Figures) (i : ℕ) → P (run (numbering g from f bs n) i l)
-  number_crowded [] g i = settled_crowded g (λ r. ended i r.mode (prepared r (numbering g from f bs n))) (broken i)
+  number_crowded [] g i = grind (arith, nat_tests)
   number_crowded (b ∷ s) g i =
       let st : State = numbering g from f bs n in
       let here : P (then (stepped i st b) (λ y. run y (i + 1) s)) = judged_crowded i s (figured g b) g (λ x. number_crowded s x (i + 1)) in

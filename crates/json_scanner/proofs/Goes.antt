@@ -1,5 +1,5 @@
 -- Runs from a state, a byte at a time.
-use Rattle.std.proofs.Common.{◌≡◌, ℕ, ◌+◌, ◌<◌, true, false, ◌&&◌, eqb, leb, List, [], ◌∷◌, ◌++◌, length, Some, None, Ok, Err, Option, Result, sym, refl, ap, ◌∙◌, subst, append_assoc, arith}
+use Rattle.std.proofs.Common.{◌≡◌, ℕ, ◌+◌, ◌<◌, true, false, ◌&&◌, eqb, leb, List, [], ◌∷◌, ◌++◌, length, Some, None, Ok, Err, Option, Result, sym, refl, ◌∙◌, subst, append_assoc, arith}
 use lib.Utf8.{scalar}
 use Rattle.std.proofs.lemmas.Bool.{cond-true, cond-false}
 use Rattle.std.proofs.lemmas.Bool.Decides.{nat_tests}
@@ -14,7 +14,7 @@ use Rattle.json_scanner.specs.declared.modes.Mode.{Mode}
 use Rattle.json_scanner.specs.declared.modes.Mode.TheVariants as mode
 use Rattle.json_scanner.specs.declared.modes.Fault.{Fault}
 use Rattle.json_scanner.specs.Grammar.{Tree, white, plain, lead2, lead3, lead4, tail, second, hex, hexed, unit, pair, high, low, surrogate, Blank, Raw, CodeUnit, Character, Chars}
-use Rattle.json_scanner.specs.Bytes.{Moved, moved, act_of, spelled, spells, led, escaped_by, united, closing, figure, settled, still, then}
+use Rattle.json_scanner.specs.Bytes.{Moved, moved, act_of, spelled, spells, led, united, closing, figure, settled, still, then}
 use Rattle.json_scanner.specs.Machine.{State, Frame, kinds, surroundings, performed, carried, stepped, step, run}
 use Rattle.json_scanner.proofs.Strings.{added, hex_small, unit_small}
 use Rattle.json_scanner.proofs.Shape.{made_of}
@@ -112,7 +112,7 @@ module _ (N : ℕ) (P : Result Tree Fault → Type 0) where
     text_go x y p cs b rest c e k j = go (texting x cs) (texting y (added cs p)) j b rest (text_step r x y p j b n cs f bs c e) (k (j + 1))
 
     raw_run : {w : List ℕ} (cs rest : List ℕ) → Raw w → ((j : ℕ) → Goes (texting inside.Plain (cs ++ w)) j rest) → (j : ℕ) → Goes (texting inside.Plain cs) j (w ++ rest)
-    raw_run cs rest (Raw.one b e) k = text_go inside.Plain inside.Plain (Some (piece.Byte b)) cs b rest (plain_quote b e) (cond-true (plain b) _ _ e) k
+    raw_run cs rest (Raw.one b e) k = grind (arith, nat_tests)
     raw_run cs rest (Raw.two a b e h) k =
         text_go inside.Plain (inside.Raw tails.One) (Some (piece.Byte a)) cs a (b ∷ rest) (lead2_quote a e) (led2 a e)
         (text_go (inside.Raw tails.One) inside.Plain (Some (piece.Byte b)) (cs ++ a ∷ []) b rest refl (cond-true (tail b) _ _ h)
@@ -159,8 +159,7 @@ module _ (N : ℕ) (P : Result Tree Fault → Type 0) where
 
     character_run : {c w : List ℕ} (cs rest : List ℕ) → Character c w → ((j : ℕ) → Goes (texting inside.Plain (cs ++ c)) j rest) → (j : ℕ) → Goes (texting inside.Plain cs) j (w ++ rest)
     character_run cs rest (Character.raw raw) k = raw_run cs rest raw k
-    character_run cs rest (Character.escape b c e) k =
-        text_go inside.Plain inside.Escape None cs 92 (b ∷ rest) refl refl (text_go inside.Escape inside.Plain (Some (piece.Byte c)) cs b rest refl (ap (λ o. escaped_by o b) e) k)
+    character_run cs rest (Character.escape b c e) k = grind (arith, nat_tests)
     character_run cs rest (Character.single (CodeUnit.digits a b c d ha hb hc hd) e) k =
         unit-run cs a b c d inside.Plain (Some (piece.Char (unit (hexed a) (hexed b) (hexed c) (hexed d)))) rest ha hb hc hd (alone_12 (hexed a) (hexed b) (hexed c) (hexed d) (hex_small c hc) (hex_small d hd) (hex_small b hb) e)
         (cond-true (scalar (unit (hexed a) (hexed b) (hexed c) (hexed d))) _ _ (alone-scalar (unit (hexed a) (hexed b) (hexed c) (hexed d)) (unit_small a b c d ha hb hc hd) e)) k

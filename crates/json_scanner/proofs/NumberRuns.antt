@@ -13,7 +13,7 @@ use Rattle.json_scanner.specs.declared.modes.Fault.TheVariants as fault
 use Rattle.json_scanner.specs.declared.modes.Ready.{Ready}
 use Rattle.json_scanner.specs.Grammar.{Tree, power, sign, unfit, Numeral, Whole, Digits, Exponent, Real}
 use Rattle.json_scanner.specs.Bytes.{goes, begun, judged, figured, figure, settled, still, then}
-use Rattle.json_scanner.specs.Machine.{State, Frame, kinds, put, surroundings, carried, stepped, step, prepared, ended, run}
+use Rattle.json_scanner.specs.Machine.{State, Frame, kinds, put, surroundings, carried, stepped, step, prepared, run}
 use Rattle.json_scanner.proofs.Shape.{made_of}
 use Rattle.json_scanner.proofs.Goes.{Goes, go, stop, Stops, unsettled, step-moved}
 
@@ -140,8 +140,7 @@ module _ (N : ℕ) (P : Result Tree Fault → Type 0) (f : Frame) (bs : List Fra
   -- an integer ends
   pub number_stops : (g : Bool) (k from : ℕ) (rest : List ℕ) → Stops rest → (leb 4096 n ≡ true → P (Err (fault.Crowded from)))
       → (leb 4096 n ≡ false → (j : ℕ) → Goes N P (after (put f (Tree.number g k)) bs (n + 1)) j rest) → (j : ℕ) → Goes N P (numbering (figures.Whole g k) from f bs n) j rest
-  number_stops g k from [] sp crowded ok j eq =
-      cond_both (leb 4096 n) _ _ (λ x. P (then x (λ r. ended j r.mode (prepared r (numbering (figures.Whole g k) from f bs n))))) crowded (λ h. ok h j eq)
+  number_stops g k from [] sp crowded ok j eq = grind (arith, nat_tests)
   number_stops g k from (b ∷ s) sp crowded ok j eq =
       let st : State = numbering (figures.Whole g k) from f bs n in
       let Q : Result Ready Fault → Type 0 = λ x. P (then (then x (λ q. stepped j (prepared q st) b)) (λ y. run y (j + 1) s)) in

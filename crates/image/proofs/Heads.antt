@@ -1,7 +1,7 @@
 -- A command with its operand is read as it was written.
 use Rattle.std.proofs.Common.{◌≡◌, ℕ, ◌-◌, ◌^◌, ◌<◌, ◌≤◌, Bool, true, false, cond, ◌&&◌, eqb, leb, List, [], ◌∷◌, ◌++◌, length, take, drop, ℤ, Some, None, Option, sym, refl, ap, ◌∙◌, subst, arith, length-append, length-drop, length-take, w64, SFits, to_z, of_z}
 use mir.ValLaws.{of_z_fits, to_z-Fits}
-use Rattle.image.proofs.Opts.{if_some, none_some}
+use Rattle.std.proofs.lemmas.Option.{cond_some, none-some}
 use Rattle.image.proofs.Operands.{number4-be4, number8-be8, spelled4, spelled8}
 use Rattle.image.specs.Commands.{code, coded, command, commands}
 use Rattle.image.specs.Decode.{Head, items, lone, members, Seen, eight, four, number4, number8, operand, part, seen}
@@ -92,14 +92,14 @@ command-code b c e = coded-code b c commands e
 
 from_four : (k : ℕ) (f : ℕ → Head) (proper : (n : ℕ) → n < 2 ^ 32 → ProperHead (f n)) (image-is : (n : ℕ) → head_image (f n) ≡ k ∷ be4 n) (s : List ℕ) (c : Seen) → Octets s → four f s ≡ Some c → Comes k s c
 from_four k f proper image-is s c o e =
-    let w = if_some (leb 4 (length s)) (behold (f (number4 s)) (drop 4 s)) c e in
+    let w = cond_some (leb 4 (length s)) (behold (f (number4 s)) (drop 4 s)) c e in
     let sp = spelled4 s (leb-true 4 (length s) w.0) o in
     let r : Comes k s (behold (f (number4 s)) (drop 4 s)) = record { proper = proper (number4 s) sp.1; bytes_are = ap (λ t. k ∷ t) sp.0 ∙ ap (λ t. t ++ drop 4 s) (sym (image-is (number4 s))) } in
     subst (Comes k s) w.1 r
 
 from_eight : (k : ℕ) (f : ℕ → Scalar) (proper : (n : ℕ) → n < 2 ^ 64 → ProperScalar (f n)) (image-is : (n : ℕ) → n < 2 ^ 64 → scalar_image (f n) ≡ k ∷ be8 n) (s : List ℕ) (c : Seen) → Octets s → eight f s ≡ Some c → Comes k s c
 from_eight k f proper image-is s c o e =
-    let w = if_some (leb 8 (length s)) (behold (lone (f (number8 s))) (drop 8 s)) c e in
+    let w = cond_some (leb 8 (length s)) (behold (lone (f (number8 s))) (drop 8 s)) c e in
     let sp = spelled8 s (leb-true 8 (length s) w.0) o in
     let r : Comes k s (behold (lone (f (number8 s))) (drop 8 s)) = record { proper = proper (number8 s) sp.1; bytes_are = ap (λ t. k ∷ t) sp.0 ∙ ap (λ t. t ++ drop 8 s) (sym (image-is (number8 s) sp.1)) } in
     subst (Comes k s) w.1 r
@@ -108,7 +108,7 @@ from_part : (k : ℕ) (f : List ℕ → Scalar) (proper : (t : List ℕ) → Sho
 from_part k f proper image-is s c o e =
     let n = number4 s in
     let d = drop 4 s in
-    let w = if_some (leb 4 (length s) && leb n (length s - 4)) (behold (lone (f (take n d))) (drop n d)) c e in
+    let w = cond_some (leb 4 (length s) && leb n (length s - 4)) (behold (lone (f (take n d))) (drop n d)) c e in
     let v = and_parts (leb 4 (length s)) (leb n (length s - 4)) w.0 in
     let sp = spelled4 s (leb-true 4 (length s) v.0) o in
     let fits : n ≤ length s - 4 = leb-true n (length s - 4) v.1 in
@@ -134,22 +134,22 @@ by_command False s c q e = plainly 0x01 (lone (bool false)) s c tt refl e
 by_command True s c q e = plainly 0x02 (lone (bool true)) s c tt refl e
 by_command Int s c q e = from_eight 0x03 (λ n. int (to_z w64 n)) (λ n h. to_z-Fits w64 n (record { fits = h })) (λ n h. ap (λ m. 0x03 ∷ be8 m) (of_z-to_z w64 n h)) s c q e
 by_command Uint s c q e = from_eight 0x04 uint (λ n h. h) (λ n h. refl) s c q e
-by_command Empty s c q e = none_some c e
+by_command Empty s c q e = absurd (none-some c e)
 by_command Text s c q e = from_part 0x06 text (λ t h. h) (λ t. refl) s c q e
 by_command Bytes s c q e = from_part 0x07 bytes (λ t h. h) (λ t. refl) s c q e
 by_command Duration s c q e = from_eight 0x09 (λ n. duration (to_z w64 n)) (λ n h. to_z-Fits w64 n (record { fits = h })) (λ n h. ap (λ m. 0x09 ∷ be8 m) (of_z-to_z w64 n h)) s c q e
 by_command ListOf s c q e = from_four 0x0A items (λ n h. h) (λ n. refl) s c q e
 by_command Map s c q e = from_four 0x0B members (λ n h. h) (λ n. refl) s c q e
-by_command Present s c q e = none_some c e
-by_command Own s c q e = none_some c e
-by_command Old s c q e = none_some c e
+by_command Present s c q e = absurd (none-some c e)
+by_command Own s c q e = absurd (none-some c e)
+by_command Old s c q e = absurd (none-some c e)
 
 by_byte : (b : ℕ) (o : Option Command) (s : List ℕ) (c : Seen) → Octets s → command b ≡ o → operand o s ≡ Some c → Comes b s c
-by_byte b None s c q m e = none_some c e
+by_byte b None s c q m e = absurd (none-some c e)
 by_byte b (Some o) s c q m e = subst (λ k. Comes k s c) (command-code b o m) (by_command o s c q e)
 
 -- the bytes that a command was read from are its image
 pub head_written : (s : List ℕ) (c : Seen) → Octets s → seen s ≡ Some c → ProperHead c.head × (s ≡ head_image c.head ++ c.rest)
 unfolding seen
-head_written [] c q e = none_some c e
+head_written [] c q e = absurd (none-some c e)
 head_written (b ∷ s) c q e = let r = by_byte b (command b) s c q.1 refl e in (r.proper, r.bytes_are)

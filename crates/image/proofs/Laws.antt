@@ -1,7 +1,8 @@
 -- The laws of images.
 use Rattle.std.proofs.Common.{◌≡◌, ℕ, ◌≤◌, Bool, true, false, cond, eqb, List, [], ◌∷◌, ◌++◌, length, Some, None, sym, refl, ap, ◌∙◌, subst, append-nil, arith, length-append}
 use Rattle.image.proofs.Bytes.{image_begins, scope-octets, tested, untested}
-use Rattle.image.proofs.Opts.{if_then, mapped_some, none_some, some_same, then_some}
+use Rattle.image.proofs.Opts.{if_then, mapped_some, then_some}
+use Rattle.std.proofs.lemmas.Option.{none-some, same_Some}
 use Rattle.image.proofs.Runs.{Written, octets_behind, run_reads, run-written}
 use Rattle.image.specs.Decode.{Decoded, decoded, decoded_old, decoded_optional, decoded_scope, ended, octets, only, run, running, scope, scope_of, then, whole}
 use Rattle.image.specs.Image.{image, old_image, scope_image}
@@ -27,9 +28,9 @@ image_decoded v r p = ap (λ o. then o (λ q. only q.rest q.values)) (one_run v 
 -- what one value's run is
 one_written : (s r : List ℕ) (vs : Items) (d : Decoded) → Written 1 s (running r vs) → only r vs ≡ Some d → Proper d.value × (s ≡ image d.value ++ d.rest)
 unfolding image
-one_written s r no_items d w e = none_some d e
+one_written s r no_items d w e = absurd (none-some d e)
 one_written s r (item v no_items) d w e =
-    let f : decodes v r ≡ d = some_same (decodes v r) d e in
+    let f : decodes v r ≡ d = same_Some (decodes v r) d e in
     let P : Decoded → Type 0 = λ z. Proper z.value × (s ≡ image z.value ++ z.rest) in
     let was : P (decodes v r) = (w.proper.0, w.bytes_are ∙ ap (λ t. t ++ r) (append-nil (image v))) in
     subst P f was
@@ -46,7 +47,7 @@ decodes_images = record { image_decoded = image_decoded; decoded_image = decoded
 
 pub prefix_code : PrefixCode
 prefix_code v w r s p q e =
-    let f : decodes v r ≡ decodes w s = some_same (decodes v r) (decodes w s) (sym (image_decoded v r p) ∙ ap decoded e ∙ image_decoded w s q) in
+    let f : decodes v r ≡ decodes w s = same_Some (decodes v r) (decodes w s) (sym (image_decoded v r p) ∙ ap decoded e ∙ image_decoded w s q) in
     (ap (λ d. d.value) f, ap (λ d. d.rest) f)
 
 -- ---- scopes
@@ -55,8 +56,8 @@ whole_image : (v : Typed) → Proper v → whole (image v) ≡ Some v
 whole_image v p = ap (λ o. then o (λ d. ended d.rest d.value)) (ap decoded (sym (append-nil (image v))) ∙ image_decoded v [] p)
 
 ended_is : {A : Type 0} (s : List ℕ) (x y : A) → ended s x ≡ Some y → (s ≡ []) × (x ≡ y)
-ended_is [] x y e = (refl, some_same x y e)
-ended_is (b ∷ s) x y e = none_some y e
+ended_is [] x y e = (refl, same_Some x y e)
+ended_is (b ∷ s) x y e = absurd (none-some y e)
 
 whole_is : (s : List ℕ) (v : Typed) → Octets s → whole s ≡ Some v → Proper v × (image v ≡ s)
 whole_is s v o e =
@@ -108,13 +109,13 @@ optional_cases b s o false false f g q h =
     subst (OldIs (0x11 ∷ (b ∷ s))) m.gives was
 
 optional_is : (s : List ℕ) (o : OldSelf) → Octets s → decoded_optional s ≡ Some o → OldIs (0x11 ∷ s) o
-optional_is [] o q e = none_some o e
+optional_is [] o q e = absurd (none-some o e)
 optional_is (b ∷ s) o q e = optional_cases b s o (eqb b 0x05) (eqb b 0x0D) refl refl q e
 
 old_is : (s : List ℕ) (o : OldSelf) → Octets s → decoded_old s ≡ Some o → OldIs s o
 old_is [] o q e =
     let was : OldIs [] absent = (tt, refl) in
-    subst (OldIs []) (some_same absent o e) was
+    subst (OldIs []) (same_Some absent o e) was
 old_is (b ∷ s) o q e =
     let t = if_then (eqb b 0x11) (decoded_optional s) o e in
     let w = optional_is s o q.1 t.1 in
@@ -124,7 +125,7 @@ abbrev ScopeIs : List ℕ → Scope → Type 0
 ScopeIs bs s = ProperScope s × (scope_image s ≡ bs)
 
 scope_of_is : (bs : List ℕ) (s : Scope) → Octets bs → scope_of bs ≡ Some s → ScopeIs bs s
-scope_of_is [] s q e = none_some s e
+scope_of_is [] s q e = absurd (none-some s e)
 scope_of_is (b ∷ bs) s q e =
     let t = if_then (eqb b 0x10) (then (decoded bs) (λ d. option_map (scope d.value) (decoded_old d.rest))) s e in
     let d = then_some (decoded bs) (λ d. option_map (scope d.value) (decoded_old d.rest)) s t.1 in

@@ -1,6 +1,7 @@
 -- Items one after another, and members as items.
 use Rattle.std.proofs.Common.{◌≡◌, ℕ, zero, suc, ◌+◌, ◌*◌, ◌≤◌, true, cond, List, ◌++◌, Some, None, Option, Ordering, Less, Equal, Greater, sym, refl, ap, ◌∙◌, subst, append_assoc, arith}
-use Rattle.image.proofs.Opts.{if_then, mapped_some, none_some, some_same}
+use Rattle.image.proofs.Opts.{if_then, mapped_some}
+use Rattle.std.proofs.lemmas.Option.{none-some, same_Some}
 use Rattle.image.specs.Decode.{above, first, later, paired, paired_value, scalar_text, text_of}
 use Rattle.image.specs.Image.{image, items_image, members_image, scalar_image}
 use Rattle.image.specs.Typed.{Above, Ascending, Items, Members, Proper, ProperItems, ProperMembers, Scalar, Short, Typed, bool, bytes, duration, int, item, items_count, list, map, member, members_count, no_items, no_members, null, scalar, text, uint}
@@ -122,18 +123,18 @@ pub record Pairs (before : Option (List ℕ)) (vs : Items) (ms : Members) : Type
   pub proper : ProperMembers ms
 
 scalar_text_is : (s : Scalar) (k : List ℕ) → scalar_text s ≡ Some k → s ≡ text k
-scalar_text_is null k e = none_some k e
-scalar_text_is (bool b) k e = none_some k e
-scalar_text_is (int z) k e = none_some k e
-scalar_text_is (uint n) k e = none_some k e
-scalar_text_is (text s) k e = ap text (some_same s k e)
-scalar_text_is (bytes s) k e = none_some k e
-scalar_text_is (duration z) k e = none_some k e
+scalar_text_is null k e = absurd (none-some k e)
+scalar_text_is (bool b) k e = absurd (none-some k e)
+scalar_text_is (int z) k e = absurd (none-some k e)
+scalar_text_is (uint n) k e = absurd (none-some k e)
+scalar_text_is (text s) k e = ap text (same_Some s k e)
+scalar_text_is (bytes s) k e = absurd (none-some k e)
+scalar_text_is (duration z) k e = absurd (none-some k e)
 
 pub text_is : (v : Typed) (k : List ℕ) → text_of v ≡ Some k → v ≡ scalar (text k)
 text_is (scalar s) k e = ap scalar (scalar_text_is s k e)
-text_is (list vs) k e = none_some k e
-text_is (map ms) k e = none_some k e
+text_is (list vs) k e = absurd (none-some k e)
+text_is (map ms) k e = absurd (none-some k e)
 
 one_more : (before : Option (List ℕ)) (v : Typed) (k : List ℕ) (w : Typed) (ws : Items) (ns ms : Members) → Proper v → Proper w → text_of v ≡ Some k → above before k ≡ true → Pairs (Some k) ws ns → member k w ns ≡ ms → Pairs before (item v (item w ws)) ms
 one_more before v k w ws ns ms p q e a r m =
@@ -159,13 +160,13 @@ mutual
   unfolding paired
 
   pub paired_is : (before : Option (List ℕ)) (vs : Items) (ms : Members) → ProperItems vs → paired before vs ≡ Some ms → Pairs before vs ms
-  paired_is before no_items ms p e = none_paired before ms (some_same no_members ms e)
+  paired_is before no_items ms p e = none_paired before ms (same_Some no_members ms e)
   paired_is before (item v vs) ms p e = paired_value_is before v (text_of v) vs ms p.0 p.1 refl e
 
   paired_value_is : (before : Option (List ℕ)) (v : Typed) (o : Option (List ℕ)) (vs : Items) (ms : Members) → Proper v → ProperItems vs → text_of v ≡ o → paired_value before o vs ≡ Some ms → Pairs before (item v vs) ms
-  paired_value_is before v None no_items ms p q t e = none_some ms e
-  paired_value_is before v (Some k) no_items ms p q t e = none_some ms e
-  paired_value_is before v None (item w ws) ms p q t e = none_some ms e
+  paired_value_is before v None no_items ms p q t e = absurd (none-some ms e)
+  paired_value_is before v (Some k) no_items ms p q t e = absurd (none-some ms e)
+  paired_value_is before v None (item w ws) ms p q t e = absurd (none-some ms e)
   paired_value_is before v (Some k) (item w ws) ms p q t e =
       let a = if_then (above before k) (option_map (member k w) (paired (Some k) ws)) ms e in
       let m = mapped_some (paired (Some k) ws) (member k w) ms a.1 in

@@ -1,7 +1,8 @@
 -- Runs of values are decoded as they were written.
 use Rattle.std.proofs.Common.{◌≡◌, ℕ, zero, suc, ◌+◌, ◌*◌, ◌^◌, ◌<◌, ◌≤◌, true, false, List, ◌++◌, length, Some, None, sym, refl, ap, ◌∙◌, subst, append_assoc, append-nil, arith, length-append}
 use Rattle.image.proofs.Heads.{ProperHead, behold, head_image, head_read, head_written}
-use Rattle.image.proofs.Opts.{mapped_some, none_some, some_same, then_some}
+use Rattle.image.proofs.Opts.{mapped_some, then_some}
+use Rattle.std.proofs.lemmas.Option.{none-some, same_Some}
 use Rattle.image.proofs.Rows.{cut, cut_image, first_join, flat, flat_count, flat_image, flat_proper, join, join_count, join_image, join_proper, later_join, paired_flat, paired_is}
 use Rattle.image.specs.Decode.{Head, items, lone, members, Run, first, gathered, head_of, later, paired, parts, run, running, seen, then}
 use Rattle.image.specs.Image.{image, items_image, members_image}
@@ -31,7 +32,7 @@ module _ (k : ℕ) (s t : List ℕ) (us : Items) (r : List ℕ) where
         proper = (p, w.proper);
         bytes_are = e ∙ ap (λ z. head_image (lone x) ++ z) w.bytes_are ∙ sym (append_assoc (head_image (lone x)) (items_image us) r);
       } in
-      subst (λ z. Written (suc k) s (running r z)) (some_same (item (scalar x) us) vs g) all
+      subst (λ z. Written (suc k) s (running r z)) (same_Some (item (scalar x) us) vs g) all
   gathered-written (items n) vs p e w g =
       let c = cut n us (omega (arith, w.count)) w.proper in
       let small : items_count (first n us) < 2 ^ 32 = omega (arith, c.front_count, p) in
@@ -43,7 +44,7 @@ module _ (k : ℕ) (s t : List ℕ) (us : Items) (r : List ℕ) where
         proper = ((small, c.front_proper), c.back_proper);
         bytes_are = bytes_are;
       } in
-      subst (λ z. Written (suc k) s (running r z)) (some_same (item (list (first n us)) (later n us)) vs g) all
+      subst (λ z. Written (suc k) s (running r z)) (same_Some (item (list (first n us)) (later n us)) vs g) all
   gathered-written (members n) vs p e w g =
       let c = cut (2 * n) us (omega (arith, w.count)) w.proper in
       let m = mapped_some (paired None (first (2 * n) us)) (λ ms. item (map ms) (later (2 * n) us)) vs g in
@@ -65,8 +66,8 @@ pub run-written : (k turns : ℕ) (s : List ℕ) (r : Run) → Octets s → run 
 unfolding run image
 run-written zero turns s r o e =
     let all : Written zero s (running s no_items) = record { count = refl; proper = tt; bytes_are = refl } in
-    subst (Written zero s) (some_same (running s no_items) r e) all
-run-written (suc k) zero s r o e = none_some r e
+    subst (Written zero s) (same_Some (running s no_items) r e) all
+run-written (suc k) zero s r o e = absurd (none-some r e)
 run-written (suc k) (suc turns) s r o e =
     let c = then_some (seen s) (λ c. then (run (parts c.head + k) turns c.rest) (λ r. option_map (running r.rest) (gathered c.head r.values))) r e in
     let h = c.mid.head in

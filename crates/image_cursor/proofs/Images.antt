@@ -2,7 +2,8 @@
 use Rattle.std.proofs.Common.{◌≡◌, ℕ, zero, suc, ◌+◌, List, ◌++◌, length, Some, refl, ap, ◌∙◌, append_assoc}
 use Rattle.image.proofs.Heads.{behold, head_image, head_read}
 use Rattle.image.proofs.Laws.{one_run}
-use Rattle.image.proofs.Opts.{mapped_some, none_some, some_same, then_some}
+use Rattle.image.proofs.Opts.{mapped_some, then_some}
+use Rattle.std.proofs.lemmas.Option.{none-some, same_Some}
 use Rattle.image.proofs.Runs.{inner, opened}
 use Rattle.image.specs.Decode.{Run, gathered, head_of, parts, run, running, seen, text_of, then}
 use Rattle.image.specs.Image.{image, items_image}
@@ -27,8 +28,8 @@ text_of_head (map ms) = refl
 -- what is decoded is skipped
 pub run-walk : (k f : ℕ) (s : List ℕ) (r : Run) → run k f s ≡ Some r → walk any k f s ≡ Some r.rest
 unfolding run walk
-run-walk zero f s r e = ap (λ z. Some z.rest) (some_same (running s no_items) r e)
-run-walk (suc k) zero s r e = none_some r e
+run-walk zero f s r e = ap (λ z. Some z.rest) (same_Some (running s no_items) r e)
+run-walk (suc k) zero s r e = absurd (none-some r e)
 run-walk (suc k) (suc f) s r e =
     let c = then_some (seen s) (λ c. then (run (parts c.head + k) f c.rest) (λ q. option_map (running q.rest) (gathered c.head q.values))) r e in
     let h = c.mid.head in

@@ -3,7 +3,8 @@ use Rattle.std.proofs.Common.{◌≡◌, ℕ, ◌+◌, Bool, true, false, cond, 
 use Rattle.image.proofs.Bytes.{tested}
 use Rattle.image.proofs.Heads.{command-code}
 use Rattle.image.proofs.Laws.{decodes_images}
-use Rattle.image.proofs.Opts.{mapped_some, none_some, some_same}
+use Rattle.image.proofs.Opts.{mapped_some}
+use Rattle.std.proofs.lemmas.Option.{none-some, same_Some}
 use Rattle.image.specs.Commands.{code, command}
 use Rattle.image.specs.Decode.{Decoded, decoded, decoded_old, decoded_optional, decoded_scope, ended, run, scope, scope_of, seen, then, whole}
 use Rattle.image.specs.Image.{image}
@@ -25,7 +26,7 @@ use Rattle.std.specs.Option.{option_map}
 -- ---- a command's byte
 
 front_is : (s r : List ℕ) (c : Command) → Some (c, r) ≡ front_command s → s ≡ code c ∷ r
-front_is [] r c e = none_some {B = [] ≡ code c ∷ r} (c, r) (sym e)
+front_is [] r c e = absurd (none-some (c, r) (sym e))
 front_is (b ∷ s) r c e =
     let m = mapped_some (command b) (λ c. (c, s)) (c, r) (sym e) in
     let byte : code m.mid ≡ b = command-code b m.mid m.was in
@@ -38,7 +39,7 @@ with_rest s o = option_map (λ c. (c, s)) o
 
 -- a byte that stands for no command is none of the markers
 no_marker : (b : ℕ) (s : List ℕ) (c : Command) → command (code c) ≡ Some c → None ≡ with_rest s (command b) → eqb b (code c) ≡ false
-no_marker b s c k e = ne_eqb b (code c) (λ p. none_some (c, s) (e ∙ ap (λ n. with_rest s (command n)) p ∙ ap (with_rest s) k))
+no_marker b s c k e = ne_eqb b (code c) (λ p. none-some (c, s) (e ∙ ap (λ n. with_rest s (command n)) p ∙ ap (with_rest s) k))
 
 -- ---- whole values
 
@@ -88,7 +89,7 @@ no_value : (b : ℕ) (s : List ℕ) → None ≡ with_rest s (command b) → com
 no_value b s e = by (command b) refl where
   by : (o : Option Command) → command b ≡ o → command b ≡ None
   by None p = p
-  by (Some c) p = none_some (c, s) (e ∙ ap (with_rest s) p)
+  by (Some c) p = absurd (none-some (c, s) (e ∙ ap (with_rest s) p))
 
 whole_none : (b : ℕ) (s : List ℕ) → command b ≡ None → whole (b ∷ s) ≡ None
 unfolding decoded run seen
@@ -180,14 +181,14 @@ other_by Old r p = refl
 
 behind_none : (o : Option Decoded) → None ≡ option_map (λ (d : Decoded). d.rest) o → behind o ≡ None
 behind_none None e = refl
-behind_none (Some d) e = none_some d.rest e
+behind_none (Some d) e = absurd (none-some d.rest e)
 
 behind_some : (o : Option Decoded) (t : List ℕ) → Some t ≡ option_map (λ (d : Decoded). d.rest) o → behind o ≡ then (option_map (λ (d : Decoded). d.value) o) (λ v. option_map (scope v) (decoded_old t))
-behind_some None t e = none_some t (sym e)
-behind_some (Some d) t e = ap (λ s. option_map (scope d.value) (decoded_old s)) (sym (some_same t d.rest e))
+behind_some None t e = absurd (none-some t (sym e))
+behind_some (Some d) t e = ap (λ s. option_map (scope d.value) (decoded_old s)) (sym (same_Some t d.rest e))
 
 both_some : (o : Option Decoded) (t : List ℕ) (x : Option OldSelf) → Some t ≡ option_map (λ (d : Decoded). d.rest) o → true ≡ is_some x → true ≡ is_some (then (option_map (λ (d : Decoded). d.value) o) (λ v. option_map (scope v) x))
-both_some None t x e f = none_some t (sym e)
+both_some None t x e f = absurd (none-some t (sym e))
 both_some (Some d) t None e f = f
 both_some (Some d) t (Some y) e f = refl
 

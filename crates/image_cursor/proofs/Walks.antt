@@ -1,6 +1,7 @@
 -- Laws of going over values.
 use Rattle.std.proofs.Common.{◌≡◌, ℕ, zero, suc, ◌+◌, ◌-◌, ◌<◌, ◌≤◌, Bool, true, false, cond, ◌&&◌, leb, List, [], ◌∷◌, length, take, drop, Some, None, Option, sym, refl, ap, arith, length-drop, w64, to_z}
-use Rattle.image.proofs.Opts.{if_some, if_then, none_some, some_same, then_some}
+use Rattle.image.proofs.Opts.{if_then, then_some}
+use Rattle.std.proofs.lemmas.Option.{cond_some, none-some, same_Some}
 use Rattle.image.specs.Commands.{command}
 use Rattle.image.specs.Decode.{Head, Seen, eight, four, items, lone, members, number4, number8, operand, part, parts, seen, then}
 use Rattle.image.specs.Typed.{Scalar, bool, bytes, duration, int, null, text, uint}
@@ -12,42 +13,42 @@ use Rattle.image_cursor.specs.Walking.{past, walk}
 
 eight_shorter : (f : ℕ → Scalar) (s : List ℕ) (c : Seen) → eight f s ≡ Some c → length c.rest ≤ length s
 eight_shorter f s c e =
-    let w = if_some (leb 8 (length s)) (record { head = lone (f (number8 s)); rest = drop 8 s }) c e in
+    let w = cond_some (leb 8 (length s)) (record { head = lone (f (number8 s)); rest = drop 8 s }) c e in
     omega (arith, ap (λ z. length z.rest) w.1, length-drop 8 s)
 
 four_shorter : (f : ℕ → Head) (s : List ℕ) (c : Seen) → four f s ≡ Some c → length c.rest ≤ length s
 four_shorter f s c e =
-    let w = if_some (leb 4 (length s)) (record { head = f (number4 s); rest = drop 4 s }) c e in
+    let w = cond_some (leb 4 (length s)) (record { head = f (number4 s); rest = drop 4 s }) c e in
     omega (arith, ap (λ z. length z.rest) w.1, length-drop 4 s)
 
 part_shorter : (f : List ℕ → Scalar) (s : List ℕ) (c : Seen) → part f s ≡ Some c → length c.rest ≤ length s
 part_shorter f s c e =
-    let w = if_some (leb 4 (length s) && leb (number4 s) (length s - 4)) (record { head = lone (f (take (number4 s) (drop 4 s))); rest = drop (number4 s) (drop 4 s) }) c e in
+    let w = cond_some (leb 4 (length s) && leb (number4 s) (length s - 4)) (record { head = lone (f (take (number4 s) (drop 4 s))); rest = drop (number4 s) (drop 4 s) }) c e in
     omega (arith, ap (λ z. length z.rest) w.1, length-drop (number4 s) (drop 4 s), length-drop 4 s)
 
 plain_shorter : (h : Head) (s : List ℕ) (c : Seen) → Some (record { head = h; rest = s }) ≡ Some c → length c.rest ≤ length s
-plain_shorter h s c e = omega (arith, ap (λ z. length z.rest) (some_same (record { head = h; rest = s }) c e))
+plain_shorter h s c e = omega (arith, ap (λ z. length z.rest) (same_Some (record { head = h; rest = s }) c e))
 
 operand_shorter : (o : Option Command) (s : List ℕ) (c : Seen) → operand o s ≡ Some c → length c.rest ≤ length s
-operand_shorter None s c e = none_some c e
+operand_shorter None s c e = absurd (none-some c e)
 operand_shorter (Some Null) s c e = plain_shorter (lone null) s c e
 operand_shorter (Some False) s c e = plain_shorter (lone (bool false)) s c e
 operand_shorter (Some True) s c e = plain_shorter (lone (bool true)) s c e
 operand_shorter (Some Int) s c e = eight_shorter (λ n. int (to_z w64 n)) s c e
 operand_shorter (Some Uint) s c e = eight_shorter uint s c e
-operand_shorter (Some Empty) s c e = none_some c e
+operand_shorter (Some Empty) s c e = absurd (none-some c e)
 operand_shorter (Some Text) s c e = part_shorter text s c e
 operand_shorter (Some Bytes) s c e = part_shorter bytes s c e
 operand_shorter (Some Duration) s c e = eight_shorter (λ n. duration (to_z w64 n)) s c e
 operand_shorter (Some ListOf) s c e = four_shorter items s c e
 operand_shorter (Some Map) s c e = four_shorter members s c e
-operand_shorter (Some Present) s c e = none_some c e
-operand_shorter (Some Own) s c e = none_some c e
-operand_shorter (Some Old) s c e = none_some c e
+operand_shorter (Some Present) s c e = absurd (none-some c e)
+operand_shorter (Some Own) s c e = absurd (none-some c e)
+operand_shorter (Some Old) s c e = absurd (none-some c e)
 
 pub seen_shorter : (s : List ℕ) (c : Seen) → seen s ≡ Some c → length c.rest < length s
 unfolding seen
-seen_shorter [] c e = none_some c e
+seen_shorter [] c e = absurd (none-some c e)
 seen_shorter (b ∷ s) c e = omega (arith, operand_shorter (command b) s c e)
 
 -- ---- as many turns as bytes are enough
@@ -92,8 +93,8 @@ module _ (ok : Head → List ℕ → Bool) where
   -- each value takes a byte
   walk_few : (k f : ℕ) (s r : List ℕ) → walk ok k f s ≡ Some r → k + length r ≤ length s
   unfolding walk
-  walk_few zero f s r e = omega (arith, ap length (some_same s r e))
-  walk_few (suc k) zero s r e = none_some r e
+  walk_few zero f s r e = omega (arith, ap length (same_Some s r e))
+  walk_few (suc k) zero s r e = absurd (none-some r e)
   walk_few (suc k) (suc f) s r e =
       let c = then_some (seen s) (λ c. cond (ok c.head c.rest) (walk ok (parts c.head + k) f c.rest) None) r e in
       let t = if_then (ok c.mid.head c.mid.rest) (walk ok (parts c.mid.head + k) f c.mid.rest) r c.gives in

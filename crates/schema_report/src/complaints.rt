@@ -65,10 +65,7 @@ impl Complaints<'_> {
     fn push_quoted_part(&mut self, part: Option<Part>) -> Result<(), AllocError> {
         if let Some(part) = part {
             self.lines.push(b' ')?;
-            push_quoted(
-                part.of(self.schema.document().text),
-                &mut self.lines,
-            )?;
+            push_quoted(part.of(self.schema.document().text), &mut self.lines)?;
         }
         Ok(())
     }

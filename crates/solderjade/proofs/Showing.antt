@@ -1,8 +1,8 @@
 -- What is shown of an answer, and buffers that are filled whole.
-use Rattle.std.proofs.Common.{◌≡◌, ℕ, zero, suc, ◌+◌, ◌/◌, ◌%◌, ◌^◌, ◌<◌, ◌==◌, ◌&&◌, Bool, true, false, cond, ltb, leb, inl, inr, List, [], ◌∷◌, ◌++◌, map, length, get_or, take, drop, slice_index, Some, None, Option, sym, refl, ap, ◌∙◌, append-nil, arith, drop_of_length-le}
+use Rattle.std.proofs.Common.{◌≡◌, ℕ, zero, suc, ◌+◌, ◌/◌, ◌%◌, ◌^◌, ◌<◌, ◌==◌, ◌&&◌, Bool, true, false, cond, ltb, inl, inr, List, [], ◌∷◌, ◌++◌, map, length, get_or, take, drop, slice_index, Some, None, Option, sym, refl, ap, ◌∙◌, arith}
 use Rattle.std.specs.Option.{option_map}
 use Rattle.std.proofs.lemmas.List.{flat_map_more, map_more, take_all, take_at}
-use Rattle.std.proofs.lemmas.Bool.{and_parts, cases_lt, eqb-true, le-leb}
+use Rattle.std.proofs.lemmas.Bool.{and_parts, cases_lt, eqb-true}
 use Rattle.hex.specs.Hex.{encode_lower, encode_with, lower_digits}
 use Rattle.base64_texts.specs.Base64Decoder.{filled}
 use Rattle.escaping.specs.Answers.{counted}
@@ -49,19 +49,12 @@ encodes_hexed (b ∷ s) h =
     let two : slice_index lower_digits (b % 16) ≡ hex_digit (b % 16) = digit-at 16 (b % 16) refl (omega arith) in
     λ i. one i ∷ (two i ∷ encodes_hexed s (λ k. h (suc k)) i)
 
-by_room : (bytes before : List ℕ) (b : Bool) → b ≡ true → length bytes ≡ length before → cond b (bytes ++ drop (0 + length bytes) before) before ≡ bytes
-by_room bytes before b e h =
-    let none : drop (0 + length bytes) before ≡ [] = drop_of_length-le before (omega arith) in
-    ap (λ t. cond t (bytes ++ drop (0 + length bytes) before) before) e ∙ (ap (λ t. bytes ++ t) none ∙ append-nil bytes)
-
 -- a buffer of the decoded length, once a text is decoded into it
 pub whole_decoded : (o : Option (List ℕ)) (m n : ℕ) (before out items : List ℕ) → Some m ≡ option_map length o → n ≡ m → length before ≡ n → out ≡ filled o before → length out ≡ n → hexed (take n (out ++ drop (length out) items)) ≡ shown_bytes o
 whole_decoded None m n before out items c a b e l = let z : ◌≡◌ {A = ℕ} 0 1 = cc in absurd (omega arith)
 whole_decoded (Some bytes) m n before out items c a b e l =
     let same : m ≡ length bytes = cc in
-    let room : leb (length bytes) (length before) ≡ true = le-leb (length bytes) (length before) (omega arith) in
-    let whole : out ≡ bytes = e ∙ by_room bytes before (leb (length bytes) (length before)) room (omega arith) in
-    ap hexed (take_at out (drop (length out) items) n l ∙ whole)
+    ap hexed (whole_written before out items bytes n b (omega arith) e l)
 
 -- a line more
 pub lines_more : {X : Type 0} (line : List ℕ → List ℕ) (word : X → List ℕ) (xs : List X) (i : ℕ) (x : X) {before after : List ℕ} → i < length xs → x ≡ get_or xs i x → before ≡ lines_of line (map word (take i xs)) → after ≡ before ++ (line (word x) ++ 10 ∷ []) → after ≡ lines_of line (map word (take (i + 1) xs))

@@ -13,7 +13,7 @@ use rule_host::answer::CompileError;
 use rule_host::host::RuleHost;
 use schema::rule::{InvalidRule, Rule};
 
-// The message expression of a rule that has a program.
+// The message expression of a rule that has a program. What it takes stands together only here, so no struct holds it.
 fn compile_message<H: RuleHost>(
     host: &mut H,
     text: &[u8],
@@ -45,7 +45,8 @@ fn compile_message<H: RuleHost>(
     }
 }
 
-// Compiles a rule, then, if it is well, its message expression. There is no answer where the host's list is full.
+// Compiles a rule, then, if it is well, its message expression. There is no answer where the host's list is full. (The
+// text moves out of a refusal by a match within a match: a pattern of two levels gets no proof.)
 pub fn compile_rule<H: RuleHost>(
     host: &mut H,
     text: &[u8],

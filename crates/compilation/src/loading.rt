@@ -18,7 +18,7 @@ use schema_tree::SchemaTree;
 
 // Loads the schema `root` of a document and compiles its rules, in place of what was loaded before: the answer is where
 // the root is among the nodes. A fault of the host's list comes before one of the tables behind it, since the rules
-// that were loaded come before that fault.
+// that were loaded come before that fault. A tree and validations travel together only from here into a compiled schema.
 pub fn compile_schema<H: RuleHost>(
     host: &mut H,
     doc: Document<'_>,

@@ -1,46 +1,30 @@
 -- Names between points.
-use Rattle.std.proofs.Common.{◌≡◌, ℕ, ◌+◌, ◌<◌, ◌≤◌, Bool, true, false, cond, ◌&&◌, eqb, List, [], ◌∷◌, ◌++◌, length, get_or, take, drop, Some, None, Option, sym, refl, ap, ◌∙◌, append_assoc, arith}
-use Rattle.std.proofs.lemmas.List.{take_more, drop_more, drop_all, append-nil, take_all}
-use Rattle.std.proofs.lemmas.Bool.{eq-eqb, ne_eqb}
+use Rattle.std.proofs.Common.{◌≡◌, ℕ, Bool, true, false, cond, ◌&&◌, eqb, List, [], ◌∷◌, Some, None, Option, refl, ap, ◌∙◌}
+use Rattle.std.specs.List.{list_all, slice_split, onto_first}
 use Rattle.rule_syntax.specs.Syntax.{name_byte, name_bytes, names_of, before_dot, past_dot, onto, proper_name, every_name}
+use Rattle.rule_syntax.proofs.Words.{point}
 
-pub name_bytes_more : (s : List ℕ) (i : ℕ) → i < length s → name_byte (get_or s i 0) ≡ true → name_bytes (drop i s) ≡ name_bytes (drop (i + 1) s)
-name_bytes_more s i h t = ap name_bytes (drop_more s i 0 h) ∙ ap (λ c. c && name_bytes (drop (i + 1) s)) t
+-- ---- the library's words
 
-pub name_bytes_stop : (s : List ℕ) (i : ℕ) → i < length s → name_byte (get_or s i 0) ≡ false → name_bytes (drop i s) ≡ false
-name_bytes_stop s i h t = ap name_bytes (drop_more s i 0 h) ∙ ap (λ c. c && name_bytes (drop (i + 1) s)) t
+pub name_bytes_all : (s : List ℕ) → list_all name_byte s ≡ name_bytes s
+name_bytes_all [] = refl
+name_bytes_all (b ∷ s) = ap (λ c. name_byte b && c) (name_bytes_all s)
 
-pub name_bytes_end : (s : List ℕ) (i : ℕ) → length s ≤ i → name_bytes (drop i s) ≡ true
-name_bytes_end s i h = ap name_bytes (drop_all i s h)
+pub every_name_all : (ns : List (List ℕ)) → list_all proper_name ns ≡ every_name ns
+every_name_all [] = refl
+every_name_all (n ∷ ns) = ap (λ c. proper_name n && c) (every_name_all ns)
 
--- ---- points
+onto_same : (b : ℕ) (ns : List (List ℕ)) → onto_first b ns ≡ onto b ns
+onto_same b [] = refl
+onto_same b (n ∷ ns) = refl
 
-pub before_more : (s : List ℕ) (i : ℕ) → i < length s → (get_or s i 0 ≡ 46 → ⊥) → before_dot s ≡ take i s ++ before_dot (drop i s) → before_dot s ≡ take (i + 1) s ++ before_dot (drop (i + 1) s)
-before_more s i h n e =
-    e ∙ ap (λ t. take i s ++ before_dot t) (drop_more s i 0 h)
-    ∙ ap (λ c. take i s ++ cond c [] (get_or s i 0 ∷ before_dot (drop (i + 1) s))) (ne_eqb (get_or s i 0) 46 n)
-    ∙ sym (append_assoc (take i s) (get_or s i 0 ∷ []) (before_dot (drop (i + 1) s)))
-    ∙ ap (λ t. t ++ before_dot (drop (i + 1) s)) (sym (take_more s i 0 h))
+pub names_by_split : (s : List ℕ) → slice_split point s ≡ names_of s
+names_by_split [] = refl
+names_by_split (b ∷ s) = ap (λ ns. cond (point b) ([] ∷ ns) (onto_first b ns)) (names_by_split s) ∙ ap (λ ns. cond (point b) ([] ∷ names_of s) ns) (onto_same b (names_of s))
 
-pub before_stop : (s : List ℕ) (i : ℕ) → i < length s → get_or s i 0 ≡ 46 → before_dot s ≡ take i s ++ before_dot (drop i s) → before_dot s ≡ take i s
-before_stop s i h n e =
-    e ∙ ap (λ t. take i s ++ before_dot t) (drop_more s i 0 h)
-    ∙ ap (λ c. take i s ++ cond c [] (get_or s i 0 ∷ before_dot (drop (i + 1) s))) (eq-eqb (get_or s i 0) 46 n)
-    ∙ append-nil (take i s)
+-- ---- the first name
 
-pub before_end : (s : List ℕ) (i : ℕ) → length s ≤ i → before_dot s ≡ take i s ++ before_dot (drop i s) → before_dot s ≡ s
-before_end s i h e = e ∙ ap (λ t. take i s ++ before_dot t) (drop_all i s h) ∙ append-nil (take i s) ∙ take_all i s h
-
-pub past_more : (s : List ℕ) (i : ℕ) → i < length s → (get_or s i 0 ≡ 46 → ⊥) → past_dot s ≡ past_dot (drop i s) → past_dot s ≡ past_dot (drop (i + 1) s)
-past_more s i h n e = e ∙ ap past_dot (drop_more s i 0 h) ∙ ap (λ c. cond c (Some (drop (i + 1) s)) (past_dot (drop (i + 1) s))) (ne_eqb (get_or s i 0) 46 n)
-
-pub past_stop : (s : List ℕ) (i : ℕ) → i < length s → get_or s i 0 ≡ 46 → past_dot s ≡ past_dot (drop i s) → past_dot s ≡ Some (drop (i + 1) s)
-past_stop s i h n e = e ∙ ap past_dot (drop_more s i 0 h) ∙ ap (λ c. cond c (Some (drop (i + 1) s)) (past_dot (drop (i + 1) s))) (eq-eqb (get_or s i 0) 46 n)
-
-pub past_end : (s : List ℕ) (i : ℕ) → length s ≤ i → past_dot s ≡ past_dot (drop i s) → past_dot s ≡ None
-past_end s i h e = e ∙ ap past_dot (drop_all i s h)
-
--- the names behind the first
+-- the names behind it
 abbrev pub more_names : Option (List ℕ) → List (List ℕ)
 more_names None = []
 more_names (Some s) = names_of s
@@ -53,20 +37,3 @@ names_split_by b s false e = ap (onto b) e
 pub names_split : (s : List ℕ) → names_of s ≡ before_dot s ∷ more_names (past_dot s)
 names_split [] = refl
 names_split (b ∷ s) = names_split_by b s (eqb b 46) (names_split s)
-
-pub every_stop : (s : List ℕ) → proper_name (before_dot s) ≡ false → every_name (names_of s) ≡ false
-every_stop s e = ap every_name (names_split s) ∙ ap (λ c. c && every_name (more_names (past_dot s))) e
-
-pub every_more : (s t : List ℕ) → proper_name (before_dot s) ≡ true → past_dot s ≡ Some t → every_name (names_of s) ≡ every_name (names_of t)
-every_more s t e p = ap every_name (names_split s) ∙ ap (λ c. c && every_name (more_names (past_dot s))) e ∙ ap (λ o. every_name (more_names o)) p
-
-pub every_end : (s : List ℕ) → proper_name (before_dot s) ≡ true → past_dot s ≡ None → every_name (names_of s) ≡ true
-every_end s e p = ap every_name (names_split s) ∙ ap (λ c. c && every_name (more_names (past_dot s))) e ∙ ap (λ o. every_name (more_names o)) p
-
-past_shorter_by : (b : ℕ) (s t : List ℕ) (c : Bool) → (past_dot s ≡ Some t → length t < length s) → cond c (Some s) (past_dot s) ≡ Some t → length t < length (b ∷ s)
-past_shorter_by b s t true rec e = let z : s ≡ t = cc in omega (arith, ap length z)
-past_shorter_by b s t false rec e = omega (arith, rec e)
-
-pub past_shorter : (s t : List ℕ) → past_dot s ≡ Some t → length t < length s
-past_shorter [] t e = let z : ◌≡◌ {A = ℕ} 0 1 = cc in absurd (omega arith)
-past_shorter (b ∷ s) t e = past_shorter_by b s t (eqb b 46) (past_shorter s t) e

@@ -1,9 +1,13 @@
 -- What a word says.
-use Rattle.std.proofs.Common.{◌≡◌, ℕ, ◌+◌, ◌-◌, ◌*◌, ◌^◌, ◌<◌, ◌≤◌, true, false, cond, leb, List, [], ◌∷◌, length, get_or, drop, pos, neg_ℤ, Some, None, refl, ap, ◌∙◌, arith}
+use Rattle.std.proofs.Common.{◌≡◌, ℕ, ◌+◌, ◌-◌, ◌*◌, ◌^◌, ◌<◌, ◌≤◌, Bool, true, false, cond, leb, List, [], ◌∷◌, length, get_or, drop, pos, neg_ℤ, Some, None, sym, refl, ap, ◌∙◌, arith}
 use Rattle.std.proofs.lemmas.Bool.{eq-eqb, ne_eqb, leb-true}
 use Rattle.std.specs.Option.{option_map}
 use Rattle.std.specs.Char.{is_ascii_digit}
-use Rattle.rule_syntax.specs.Syntax.{Term, int, path, magnitude, magnitude_from, number_of, numeric, constant_of, names_of, every_name, path_of, or_else, operand_of}
+use Rattle.std.specs.Bool.{then_some}
+use Rattle.fixed.specs.declared.slice.Slice.{Slice}
+use Rattle.rule_syntax.specs.declared.rule.Operand.{Operand}
+use Rattle.rule_syntax.specs.declared.rule.Operand.TheVariants.{Path}
+use Rattle.rule_syntax.specs.Syntax.{int, path, meant_operand, part, magnitude, magnitude_from, number_of, numeric, constant_of, names_of, every_name, path_of, or_else, operand_of}
 use Rattle.rule_syntax.proofs.Options.{not_some, some_same, cond_none}
 
 pub number_minus : (w : List ℕ) → 0 < length w → get_or w 0 0 ≡ 45 → number_of w ≡ option_map (λ n. neg_ℤ (pos n)) (magnitude (2 ^ 63) (drop 1 w))
@@ -33,11 +37,16 @@ operand_number w e = ap (λ c. cond c (option_map int (number_of w)) (or_else (c
 pub operand_other : (w : List ℕ) → numeric w ≡ false → operand_of w ≡ or_else (constant_of w) (path_of w)
 operand_other w e = ap (λ c. cond c (option_map int (number_of w)) (or_else (constant_of w) (path_of w))) e
 
-pub operand_constant : (w : List ℕ) (t : Term) → numeric w ≡ false → constant_of w ≡ Some t → operand_of w ≡ Some t
-operand_constant w t n e = operand_other w n ∙ ap (λ o. or_else o (path_of w)) e
-
 pub operand_path : (w : List ℕ) → numeric w ≡ false → constant_of w ≡ None → every_name (names_of w) ≡ true → operand_of w ≡ Some (path (names_of w))
 operand_path w n e p = operand_other w n ∙ ap (λ o. or_else o (path_of w)) e ∙ ap (λ c. cond c (Some (path (names_of w))) None) p
 
 pub operand_ill : (w : List ℕ) → numeric w ≡ false → constant_of w ≡ None → every_name (names_of w) ≡ false → operand_of w ≡ None
 operand_ill w n e p = operand_other w n ∙ ap (λ o. or_else o (path_of w)) e ∙ ap (λ c. cond c (Some (path (names_of w))) None) p
+
+named_by : (s w : List ℕ) (b : Bool) (o : Operand) → numeric w ≡ false → constant_of w ≡ None → every_name (names_of w) ≡ b → meant_operand s o ≡ path (names_of w) → option_map (meant_operand s) (then_some b o) ≡ operand_of w
+named_by s w true o n c e m = ap Some m ∙ sym (operand_path w n c e)
+named_by s w false o n c e m = sym (operand_ill w n c e)
+
+-- a word that is a path, if it is one
+pub operand_named : (s : List ℕ) (p : Slice) (b : Bool) → numeric (part p s) ≡ false → constant_of (part p s) ≡ None → b ≡ every_name (names_of (part p s)) → option_map (meant_operand s) (then_some b (Path p)) ≡ operand_of (part p s)
+operand_named s p b n c e = named_by s (part p s) b (Path p) n c (sym e) refl

@@ -1,49 +1,57 @@
 -- What is read from the front of a text, and where.
-use Rattle.std.proofs.Common.{◌≡◌, ℕ, ◌-◌, ◌≤◌, List, [], ◌∷◌, ◌++◌, length, take, drop, Some, None, Option, sym, refl, ap, ◌∙◌, subst, append_assoc, arith, length-append}
-use Rattle.std.proofs.lemmas.List.{take-append-drop, take_at, drop_at}
+use Rattle.std.proofs.Common.{◌≡◌, ℕ, ◌+◌, ◌-◌, ◌<◌, ◌≤◌, ◌⊎◌, inl, inr, List, [], ◌∷◌, length, take, drop, Some, Option, sym, refl, ap, ◌∙◌, subst, arith, length-drop}
+use lib.Seq.{drop-drop}
+use Rattle.std.proofs.lemmas.Bool.{cases_lt}
+use Rattle.std.proofs.lemmas.List.{take-append-drop, take_at, drop_all}
 use Rattle.std.specs.Option.{option_map}
 use Rattle.std.specs.List.{prefix_len}
 use Rattle.rule_syntax.specs.declared.rule.Operator.{Operator}
-use Rattle.rule_syntax.specs.Syntax.{Term, Compared, Within, Lies, then, word_byte, unspaced, leading_word, behind_word, operand_of, leading_operand, begins, operators, operator_of, leading_operator, leading_comparison}
+use Rattle.rule_syntax.specs.Syntax.{Term, Compared, Within, then, word_byte, unspaced, leading_word, behind_word, operand_of, leading_operand, begins, operators, operator_of, leading_operator, leading_comparison}
 use Rattle.rule_syntax.proofs.Options.{not_some, then_some, mapped_some, cond_some}
 
 -- ---- where a text ends another
 
+pub within_length : (s t : List ℕ) → Within s t → length t ≤ length s
+within_length s t e = omega (arith, ap length e, length-drop (length s - length t) s)
+
 pub within_trans : (s t u : List ℕ) → Within s t → Within t u → Within s u
-within_trans s t u (f, e) (g, k) = (f ++ g, e ∙ ap (λ x. f ++ x) k ∙ sym (append_assoc f g u))
+within_trans s t u e k =
+    let n : length s - length u ≡ (length s - length t) + (length t - length u) = omega (arith, within_length s t e, within_length t u k) in
+    ap (λ n. drop n s) n ∙ (sym (drop-drop (length t - length u) (length s - length t) s) ∙ (ap (drop (length t - length u)) e ∙ k))
+
+within_drop_by : (n : ℕ) (s : List ℕ) → (length s < n) ⊎ (n ≤ length s) → Within s (drop n s)
+within_drop_by n s (inl h) =
+    let m : length s ≤ length s - length (drop n s) = omega (arith, length-drop n s) in
+    drop_all (length s - length (drop n s)) s m ∙ sym (drop_all n s (omega arith))
+within_drop_by n s (inr h) = let m : length s - length (drop n s) ≡ n = omega (arith, length-drop n s) in ap (λ k. drop k s) m
 
 pub within_drop : (n : ℕ) (s : List ℕ) → Within s (drop n s)
-within_drop n s = (take n s, sym (take-append-drop n s))
+within_drop n s = within_drop_by n s (cases_lt (length s) n)
+
+-- what stands behind the first n bytes of a text that ends s
+pub within_behind : (s t u : List ℕ) (n : ℕ) → Within s t → u ≡ drop n t → Within s u
+within_behind s t u n h e = subst (Within s) (sym e) (within_trans s t (drop n t) h (within_drop n t))
 
 pub within_unspaced : (s t : List ℕ) → Within s t → Within s (unspaced t)
 within_unspaced s t h = within_trans s t (unspaced t) h (within_drop _ t)
 
-pub within_length : (s t : List ℕ) → Within s t → length t ≤ length s
-within_length s t (f, e) = omega (arith, ap length e, length-append f t)
-
--- a word at the front of t, which ends s, stands where t begins
-pub word_lies : (s t : List ℕ) → Within s t → Lies (leading_word t) (length s - length t) s
-word_lies s t (f, e) =
-    let n : length f ≡ length s - length t = omega (arith, ap length e, length-append f t) in
-    ap (λ x. take (length (leading_word t)) (drop (length s - length t) x)) e
-    ∙ ap (λ x. take (length (leading_word t)) x) (drop_at f t (length s - length t) n)
+-- the word at the front of t, which ends s
+pub word_stands : (s t w : List ℕ) → Within s t → w ≡ leading_word t → take (length w) (drop (length s - length t) s) ≡ leading_word t
+word_stands s t w h e =
+    ap (λ x. take (length w) x) h
+    ∙ ap (λ x. take (length x) t) e
     ∙ ap (λ x. take (length (leading_word t)) x) (sym (take-append-drop (prefix_len word_byte t) t))
     ∙ take_at (leading_word t) (behind_word t) (length (leading_word t)) refl
 
-pub word_lies_at : (s t u w : List ℕ) → Within s t → u ≡ unspaced t → w ≡ leading_word u → Lies w (length s - length u) s
-word_lies_at s t u w h eu ew =
-    let P : List ℕ → Type 0 = λ x. Lies x (length s - length u) s in
-    subst P (sym ew) (word_lies s u (subst (Within s) (sym eu) (within_unspaced s t h)))
+-- the same in a reader's words, where r is left of s
+pub word_at_place : (s r t w : List ℕ) → Within s r → t ≡ unspaced r → w ≡ leading_word t → take (length w) (drop (length s - length t) s) ≡ leading_word (unspaced r)
+word_at_place s r t w h e k = word_stands s t w (subst (Within s) (sym e) (within_unspaced s r h)) k ∙ ap leading_word e
 
 -- ---- operands
 
 pub operand_some : (t : List ℕ) (x : Term) → operand_of (leading_word (unspaced t)) ≡ Some x → leading_operand t ≡ Some (x, unspaced (behind_word (unspaced t)))
 unfolding leading_operand
 operand_some t x e = ap (option_map (λ y. (y, unspaced (behind_word (unspaced t))))) e
-
-pub operand_none : (t : List ℕ) → operand_of (leading_word (unspaced t)) ≡ None → leading_operand t ≡ None
-unfolding leading_operand
-operand_none t e = ap (option_map (λ y. (y, unspaced (behind_word (unspaced t))))) e
 
 pub operand-parts : (t : List ℕ) (p : Term × List ℕ) → leading_operand t ≡ Some p → (operand_of (leading_word (unspaced t)) ≡ Some p.0) × (unspaced (behind_word (unspaced t)) ≡ p.1)
 unfolding leading_operand
@@ -55,7 +63,7 @@ pub operand_within : (t : List ℕ) (p : Term × List ℕ) → leading_operand t
 operand_within t p e =
     let u = unspaced t in
     let w = within_unspaced t (behind_word u) (within_trans t u (behind_word u) (within_drop _ t) (within_drop _ u)) in
-    (w.0, w.1 ∙ ap (λ x. w.0 ++ x) (operand-parts t p e).1)
+    subst (Within t) (operand-parts t p e).1 w
 
 -- ---- operators
 
@@ -76,18 +84,6 @@ behind_left l = then (leading_operator l.1) (λ o. option_map (λ r. (record { l
 
 abbrev behind_operator : Term × List ℕ → Operator × List ℕ → Option (Compared × List ℕ)
 behind_operator l o = option_map (λ r. (record { left = l.0; operator = o.0; right = r.0 }, r.1)) (leading_operand o.1)
-
-pub comparison_no_left : (t : List ℕ) → leading_operand t ≡ None → leading_comparison t ≡ None
-unfolding leading_comparison
-comparison_no_left t e = ap (λ o. then o behind_left) e
-
-pub comparison_no_operator : (t : List ℕ) (l : Term × List ℕ) → leading_operand t ≡ Some l → leading_operator l.1 ≡ None → leading_comparison t ≡ None
-unfolding leading_comparison
-comparison_no_operator t l e k = ap (λ o. then o behind_left) e ∙ ap (λ o. then o (behind_operator l)) k
-
-pub comparison_no_right : (t : List ℕ) (l : Term × List ℕ) (o : Operator × List ℕ) → leading_operand t ≡ Some l → leading_operator l.1 ≡ Some o → leading_operand o.1 ≡ None → leading_comparison t ≡ None
-unfolding leading_comparison
-comparison_no_right t l o e k h = ap (λ o. then o behind_left) e ∙ ap (λ o. then o (behind_operator l)) k ∙ ap (option_map (λ r. (record { left = l.0; operator = o.0; right = r.0 }, r.1))) h
 
 pub comparison_some : (t : List ℕ) (l : Term × List ℕ) (o : Operator × List ℕ) (r : Term × List ℕ) → leading_operand t ≡ Some l → leading_operator l.1 ≡ Some o → leading_operand o.1 ≡ Some r
     → leading_comparison t ≡ Some (record { left = l.0; operator = o.0; right = r.0 }, r.1)
@@ -117,4 +113,4 @@ comparison_within t p e =
     let q = comparison_parts t p e in
     let w = within_trans t q.left.1 q.right.1 (operand_within t q.left q.left_read)
     (within_trans q.left.1 q.operator.1 q.right.1 (operator_within q.left.1 q.operator q.operator_read) (operand_within q.operator.1 q.right q.right_read)) in
-    (w.0, w.1 ∙ ap (λ x. w.0 ++ x.1) q.made)
+    subst (Within t) (ap (λ x. x.1) q.made) w

@@ -1,13 +1,16 @@
 -- A rule is read one comparison at a time.
-use Rattle.std.proofs.Common.{◌≡◌, ℕ, zero, suc, ◌+◌, ◌<◌, ◌≤◌, Bool, true, false, cond, not, ◌||◌, eqb, leb, List, [], ◌∷◌, ◌++◌, map, length, take, drop, Some, None, codes, MatchBool, Option, sym, refl, ap, ◌∙◌, subst, append_assoc, arith, length-append, length-drop, length-take}
+use Rattle.std.proofs.Common.{◌≡◌, ℕ, zero, suc, ◌+◌, ◌<◌, ◌≤◌, Bool, true, false, cond, eqb, List, [], ◌∷◌, ◌++◌, map, length, take, drop, Some, None, codes, MatchResult, Ok, Err, Option, Result, sym, refl, ap, ◌∙◌, subst, append_assoc, arith, length-append, length-drop, length-take}
 use Rattle.std.proofs.lemmas.List.{append-nil, take-append-le, map-append, length_push, take_all}
-use Rattle.std.proofs.lemmas.Bool.{eq-eqb, ne_eqb, leb-false}
-use Rattle.std.proofs.lemmas.Bool.Decides.{when_true, when_false}
-use Rattle.fixed.specs.Room.{fits, extended}
+use Rattle.std.proofs.lemmas.Bool.{eq-eqb, ne_eqb}
+use Rattle.std.specs.Result.{result_and}
+use Rattle.fixed.specs.Room.{Extends}
+use Rattle.fixed.specs.declared.refusal.Full as refusal
 use Rattle.rule_syntax.specs.declared.rule.Comparison.{Comparison}
-use Rattle.rule_syntax.specs.Syntax.{Compared, Within, then, begins, leading_comparison, behind_and, rule_from, parsed, meant}
+use Rattle.rule_syntax.specs.declared.rule.Refused.{Refused}
+use Rattle.rule_syntax.specs.declared.rule.Refused.TheVariants.{Syntax, Full}
+use Rattle.rule_syntax.specs.Syntax.{Compared, Filled, left_by, reads, then, begins, leading_comparison, behind_and, rule_from, parsed, meant}
 use Rattle.rule_syntax.proofs.Options.{not_some, some_same}
-use Rattle.rule_syntax.proofs.Readers.{within_trans, within_drop, within_length, comparison_within}
+use Rattle.rule_syntax.proofs.Readers.{within_length, comparison_within}
 
 -- what is done behind a comparison
 abbrev pub goes_on : ℕ → List Compared → Compared × List ℕ → Option (List Compared)
@@ -52,21 +55,18 @@ and_by s t false e = not_some t e
 pub and_parts_of : (s t : List ℕ) → behind_and s ≡ Some t → (begins (codes "&&") s ≡ true) × (drop 2 s ≡ t)
 and_parts_of s t e = and_by s t (begins (codes "&&") s) e
 
-pub and_within : (s t : List ℕ) → behind_and s ≡ Some t → Within s t
-and_within s t e = subst (Within s) (and_parts_of s t e).1 (within_drop 2 s)
-
 pub and_shorter : (s t : List ℕ) → behind_and s ≡ Some t → 0 < length s → length t < length s
 and_shorter s t e h = omega (arith, ap length (and_parts_of s t e).1, length-drop 2 s)
 
 -- ---- the table
 
--- what stands in the table once cs have been read
-pub record Tabled (room : ℕ) (before : List Comparison) (full : Bool) (table cs : List Comparison) : Type 0 where
+-- what stands in the table once cs have been read, and whether it has had room so far
+pub record Tabled (most : ℕ) (before : List Comparison) (room : Result (Unit {0}) refusal.Full) (table cs : List Comparison) : Type 0 where
   pub kept : take (length before) table ≡ before
-  pub state : MatchBool full (room < length before + length cs) (table ≡ before ++ cs)
+  pub state : MatchResult room (λ _. table ≡ before ++ cs) (λ _. most < length before + length cs)
 
-pub tabled_start : (room : ℕ) (before : List Comparison) → Tabled room before false before []
-tabled_start room before = record { kept = take_all (length before) before (omega arith); state = sym (append-nil before) }
+pub tabled_start : (most : ℕ) (before : List Comparison) → Tabled most before (Ok tt) before []
+tabled_start most before = record { kept = take_all (length before) before (omega arith); state = sym (append-nil before) }
 
 long : (before table : List Comparison) → take (length before) table ≡ before → length before ≤ length table
 long before table e = omega (arith, ap length e, length-take (length before) table)
@@ -74,27 +74,34 @@ long before table e = omega (arith, ap length e, length-take (length before) tab
 still_kept : (before table more : List Comparison) → take (length before) table ≡ before → take (length before) (table ++ more) ≡ before
 still_kept before table more e = take-append-le (length before) table more (long before table e) ∙ e
 
-tabled_by : (room : ℕ) (before : List Comparison) (full : Bool) (table cs : List Comparison) (c : Comparison) (room_left : Bool) → leb (length table + 1) room ≡ room_left
-    → Tabled room before full table cs → Tabled room before (full || not room_left) (cond room_left (table ++ c ∷ []) table) (cs ++ c ∷ [])
-tabled_by room before true table cs c true e h = record { kept = still_kept before table (c ∷ []) h.kept; state = omega (arith, h.state, length_push cs c) }
-tabled_by room before true table cs c false e h = record { kept = h.kept; state = omega (arith, h.state, length_push cs c) }
-tabled_by room before false table cs c true e h =
-    record { kept = still_kept before table (c ∷ []) h.kept; state = ap (λ t. t ++ c ∷ []) h.state ∙ append_assoc before cs (c ∷ []) }
-tabled_by room before false table cs c false e h =
-    record { kept = h.kept; state = omega (arith, leb-false (length table + 1) room e, ap length h.state, length-append before cs, length_push cs c) }
+by_table : (most : ℕ) (before : List Comparison) (room pushed : Result (Unit {0}) refusal.Full) (table table' cs : List Comparison) (c : Comparison)
+    → Extends most table (c ∷ []) pushed table' → Tabled most before room table cs → Tabled most before (result_and room pushed) table' (cs ++ c ∷ [])
+by_table most before (Ok u) (Ok v) table table' cs c e h = record {
+  kept = ap (take (length before)) e.2 ∙ still_kept before table (c ∷ []) h.kept;
+  state = e.2 ∙ ap (λ t. t ++ c ∷ []) h.state ∙ append_assoc before cs (c ∷ []);
+}
+by_table most before (Ok u) (Err f) table table' cs c e h = record {
+  kept = ap (take (length before)) e.1 ∙ h.kept;
+  state = omega (arith, e.0, ap length h.state, length-append before cs, length_push cs c);
+}
+by_table most before (Err f) (Ok v) table table' cs c e h = record {
+  kept = ap (take (length before)) e.2 ∙ still_kept before table (c ∷ []) h.kept;
+  state = omega (arith, h.state, length_push cs c);
+}
+by_table most before (Err f) (Err k) table table' cs c e h = record { kept = ap (take (length before)) e.1 ∙ h.kept; state = omega (arith, h.state, length_push cs c) }
 
-pub tabled_more : (room : ℕ) (before : List Comparison) (full : Bool) (table cs : List Comparison) (c : Comparison) (full' : Bool) (table' : List Comparison)
-    → full' ≡ (full || not (fits room table (c ∷ []))) → table' ≡ extended room table (c ∷ []) → Tabled room before full table cs → Tabled room before full' table' (cs ++ c ∷ [])
-tabled_more room before full table cs c full' table' e k h =
-    let P : Bool → Type 0 = λ f. Tabled room before f table' (cs ++ c ∷ []) in
-    let Q : List Comparison → Type 0 = λ t. Tabled room before (full || not (fits room table (c ∷ []))) t (cs ++ c ∷ []) in
-    subst P (sym e) (subst Q (sym k) (tabled_by room before full table cs c (fits room table (c ∷ [])) refl h))
+pub tabled_more : (most : ℕ) (before : List Comparison) (room pushed room' : Result (Unit {0}) refusal.Full) (table table' cs : List Comparison) (c : Comparison)
+    → room' ≡ result_and room pushed → Extends most table (c ∷ []) pushed table' → Tabled most before room table cs → Tabled most before room' table' (cs ++ c ∷ [])
+tabled_more most before room pushed room' table table' cs c e x h = subst (λ o. Tabled most before o table' (cs ++ c ∷ [])) (sym e) (by_table most before room pushed table table' cs c x h)
 
-pub tabled_full : (room : ℕ) (before : List Comparison) (full : Bool) (table cs : List Comparison) → Tabled room before full table cs → full ≡ true → room < length before + length cs
-tabled_full room before full table cs h e = when_true {b = full} (room < length before + length cs) (table ≡ before ++ cs) e h.state
+-- ---- what a reader has read
 
-pub tabled_all : (room : ℕ) (before : List Comparison) (full : Bool) (table cs : List Comparison) → Tabled room before full table cs → full ≡ false → table ≡ before ++ cs
-tabled_all room before full table cs h e = when_false {b = full} (room < length before + length cs) (table ≡ before ++ cs) e h.state
+-- a comparison c of the expression s, with t behind it
+pub comparison_read : (s e rest t : List ℕ) (o : Option Comparison) (c : Comparison) → reads (meant e) o t ≡ leading_comparison rest → o ≡ Some c → e ≡ s → leading_comparison rest ≡ Some (meant s c, t)
+comparison_read s e rest t o c read some same = sym read ∙ ap (λ o. reads (meant e) o t) some ∙ ap (λ x. Some (meant x c, t)) same
+
+pub and_passed : (t u : List ℕ) (o p : Option (Unit {0})) → left_by o u ≡ behind_and t → o ≡ p → behind_and t ≡ left_by p u
+and_passed t u o p read same = sym read ∙ ap (λ o. left_by o u) same
 
 -- ---- a rule on its way
 
@@ -102,11 +109,10 @@ pub record Going (s : List ℕ) (cs : List Comparison) (rest : List ℕ) : Type 
   pub turns : ℕ
   pub enough : length rest < turns
   pub same : parsed s ≡ rule_from turns (map (meant s) cs) rest
-  pub ends : Within s rest
 
 pub going_start : (s : List ℕ) → Going s [] s
 unfolding parsed
-going_start s = record { turns = length s + 1; enough = omega arith; same = refl; ends = ([], refl) }
+going_start s = record { turns = length s + 1; enough = omega arith; same = refl }
 
 pub going_stuck : (s : List ℕ) (cs : List Comparison) (rest : List ℕ) → Going s cs rest → leading_comparison rest ≡ None → parsed s ≡ None
 going_stuck s cs rest g e = g.same ∙ rule_stuck g.turns (map (meant s) cs) rest e
@@ -120,17 +126,26 @@ going_end s cs rest c t g e z = g.same ∙ rule_end g.turns (map (meant s) cs) r
 pub going_ill : (s : List ℕ) (cs : List Comparison) (rest : List ℕ) (c : Comparison) (t : List ℕ) → Going s cs rest → leading_comparison rest ≡ Some (meant s c, t) → 0 < length t → behind_and t ≡ None → parsed s ≡ None
 going_ill s cs rest c t g e h a = g.same ∙ rule_ill g.turns (map (meant s) cs) rest (meant s c, t) e h a
 
-next_by : (s : List ℕ) (cs : List Comparison) (rest : List ℕ) (c : Comparison) (t u : List ℕ) (k : ℕ) → length rest < k → parsed s ≡ rule_from k (map (meant s) cs) rest → Within s rest
+next_by : (s : List ℕ) (cs : List Comparison) (rest : List ℕ) (c : Comparison) (t u : List ℕ) (k : ℕ) → length rest < k → parsed s ≡ rule_from k (map (meant s) cs) rest
     → leading_comparison rest ≡ Some (meant s c, t) → 0 < length t → behind_and t ≡ Some u → Going s (cs ++ c ∷ []) u
-next_by s cs rest c t u zero few same ends e h a = absurd (omega arith)
-next_by s cs rest c t u (suc k) few same ends e h a =
+next_by s cs rest c t u zero few same e h a = absurd (omega arith)
+next_by s cs rest c t u (suc k) few same e h a =
     let w = comparison_within rest (meant s c, t) e in
     record {
       turns = k;
       enough = omega (arith, within_length rest t w, and_shorter t u a h);
       same = same ∙ rule_next k (map (meant s) cs) rest (meant s c, t) u e h a ∙ ap (λ d. rule_from k d u) (read_more s cs c);
-      ends = within_trans s rest u ends (within_trans rest t u w (and_within t u a));
     }
 
 pub going_next : (s : List ℕ) (cs : List Comparison) (rest : List ℕ) (c : Comparison) (t u : List ℕ) → Going s cs rest → leading_comparison rest ≡ Some (meant s c, t) → 0 < length t → behind_and t ≡ Some u → Going s (cs ++ c ∷ []) u
-going_next s cs rest c t u g e h a = next_by s cs rest c t u g.turns g.enough g.same g.ends e h a
+going_next s cs rest c t u g e h a = next_by s cs rest c t u g.turns g.enough g.same e h a
+
+-- ---- what is answered
+
+pub filled_syntax : (most : ℕ) (s : List ℕ) (before after : List Comparison) (r : Result (Unit {0}) Refused) → r ≡ Err Syntax → parsed s ≡ None → take (length before) after ≡ before → Filled most s before r after
+filled_syntax most s before after r e none kept = subst (λ x. Filled most s before x after) (sym e) (none, kept)
+
+pub filled_read : (most : ℕ) (s : List ℕ) (before after cs : List Comparison) (room : Result (Unit {0}) refusal.Full) (r : Result (Unit {0}) Refused)
+    → MatchResult room (λ u. r ≡ Ok u) (λ _. r ≡ Err Full) → parsed s ≡ Some (map (meant s) cs) → Tabled most before room after cs → Filled most s before r after
+filled_read most s before after cs (Ok u) r m e t = subst (λ x. Filled most s before x after) (sym m) (cs, e, t.state)
+filled_read most s before after cs (Err f) r m e t = subst (λ x. Filled most s before x after) (sym m) (cs, e, t.state, t.kept)

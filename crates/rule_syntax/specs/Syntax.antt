@@ -5,6 +5,7 @@ use Rattle.std.specs.Option.{option_map}
 use Rattle.std.specs.Char.{is_ascii_alphanumeric, is_ascii_digit}
 use Rattle.std.specs.List.{prefix_len}
 use Rattle.std.specs.Str.{bytes_eq}
+use Rattle.fixed.specs.declared.slice.Slice.{Slice}
 use Rattle.escaping.specs.Escape.{reserved}
 use Rattle.rule_syntax.specs.declared.rule.Comparison.{Comparison}
 use Rattle.rule_syntax.specs.declared.rule.Operand.{Operand}
@@ -13,7 +14,6 @@ use Rattle.rule_syntax.specs.declared.rule.Operator.{Operator}
 use Rattle.rule_syntax.specs.declared.rule.Operator.TheVariants.{Eq, Ne, Lt, Le, Gt, Ge}
 use Rattle.rule_syntax.specs.declared.rule.Refused.{Refused}
 use Rattle.rule_syntax.specs.declared.rule.Refused.TheVariants.{Syntax, Full}
-use Rattle.rule_syntax.specs.declared.rule.Slice.{Slice}
 use Rattle.rule_syntax.specs.declared.rule.Span.{Span}
 
 -- ---- what a rule says
@@ -153,17 +153,21 @@ meant_operand s (code.Path p) = path (names_of (part p s))
 abbrev pub meant : List ℕ → Comparison → Compared
 meant s c = record { left = meant_operand s c.left; operator = c.operator; right = meant_operand s c.right }
 
--- w stands at `start` in s
-abbrev pub Lies : List ℕ → ℕ → List ℕ → Type 0
-Lies w start s = take (length w) (drop start s) ≡ w
-
 -- t ends s
 abbrev pub Within : List ℕ → List ℕ → Type 0
-Within s t = (front : List ℕ) × (s ≡ front ++ t)
+Within s t = drop (length s - length t) s ≡ t
 
--- what a reader has read, by its meaning, with what its reference to the text behind it points to
+-- what is read, by its meaning, with what its reference to the text behind it points to
 abbrev pub seen : {A B : Type 0} → (A → B) → Option (A × Bor (List ℕ)) → Option (B × List ℕ)
 seen f r = option_map (λ p. (f p.0, p.1.now)) r
+
+-- the same of a reader that has `rest` left then
+abbrev pub reads : {A B : Type 0} → (A → B) → Option A → List ℕ → Option (B × List ℕ)
+reads f r rest = option_map (λ x. (f x, rest)) r
+
+-- what it has left, where it found what it was to pass over
+abbrev pub left_by : {A : Type 0} → Option A → List ℕ → Option (List ℕ)
+left_by r rest = option_map (λ _. rest) r
 
 -- ---- comparisons
 

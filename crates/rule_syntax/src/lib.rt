@@ -8,10 +8,11 @@ mod read;
 pub mod rule;
 mod word;
 
+pub use fixed::slice::Slice;
 pub use mention::mentions;
 pub use path::first_name;
 pub use read::parse;
-pub use rule::{Comparison, Operand, Operator, Refused, Slice, Span};
+pub use rule::{Comparison, Operand, Operator, Refused, Span};
 
 #[cfg(test)]
 mod tests;

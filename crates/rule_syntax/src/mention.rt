@@ -4,16 +4,17 @@ ghost use Rattle.rule_syntax.specs.Mention.{begins_with, mentioned};
 ghost use Rattle.std.specs.Prelude.{◌≡◌, ◌||◌, map};
 
 use crate::rule::{Comparison, Operand};
-use crate::word::{same_bytes, split_point};
+use crate::word::split_point;
 
+#[tactic(auto, using(crate::proofs::FirstNames::first_is))]
 fn begins_with(expression: &[u8], operand: Operand, name: &[u8]) -> bool
     ensures { result ≡ begins_with (meant_operand expression.now operand) name.now }
 {
     let Operand::Path(place) = operand else {
         return false;
     };
-    let (first, _) = split_point(place.bytes(expression));
-    same_bytes(first, name)
+    let (first, _) = split_point(place.of(expression));
+    first == name
 }
 
 // Whether a path of the comparison begins with `name`.
@@ -28,10 +29,7 @@ fn either_begins(expression: &[u8], comparison: Comparison, name: &[u8]) -> bool
 pub fn mentions(expression: &[u8], comparisons: &[Comparison], name: &[u8]) -> bool
     ensures { result ≡ mentioned (map (meant expression.now) comparisons.now) name.now }
 {
-    for comparison in comparisons {
-        if either_begins(expression, *comparison, name) {
-            return true;
-        }
-    }
-    false
+    comparisons
+        .iter()
+        .any(|comparison| either_begins(expression, *comparison, name))
 }

@@ -13,12 +13,7 @@ const MAX_NAME: usize = 255;
 fn are_name_bytes(text: &[u8]) -> bool
     ensures { result ≡ name_bytes text.now }
 {
-    for byte in text {
-        if !is_name_byte(*byte) {
-            return false;
-        }
-    }
-    true
+    text.iter().all(|byte| is_name_byte(*byte))
 }
 
 fn is_name(text: &[u8]) -> bool
@@ -34,17 +29,7 @@ fn is_name(text: &[u8]) -> bool
 pub fn is_path(text: &[u8]) -> bool
     ensures { result ≡ every_name (names_of text.now) }
 {
-    let mut rest = text;
-    loop {
-        let (name, more) = split_point(rest);
-        if !is_name(name) {
-            return false;
-        }
-        match more {
-            Some(tail) => rest = tail,
-            None => return true,
-        }
-    }
+    text.split(|byte| *byte == b'.').all(is_name)
 }
 
 // The first name of a path, and the path that follows it; nothing of an empty path.
@@ -55,8 +40,5 @@ pub fn first_name(path: &[u8]) -> Option<(&[u8], &[u8])>
         return None;
     }
     let (name, more) = split_point(path);
-    match more {
-        Some(rest) => Some((name, rest)),
-        None => Some((name, &[])),
-    }
+    Some((name, more.unwrap_or(&[])))
 }

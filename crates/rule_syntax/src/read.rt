@@ -1,15 +1,14 @@
 // A text is read from left to right, each byte into the operand or operator that it belongs to.
-ghost use Rattle.rule_syntax.specs.Syntax.{answered, behind_and, Filled, leading_comparison, leading_operand, leading_operator, meant, meant_operand, parsed, seen, told, Within};
+ghost use Rattle.rule_syntax.specs.Syntax.{answered, Filled, leading_comparison, leading_operand, leading_operator, left_by, behind_and, meant, meant_operand, parsed, reads, seen, told, Within};
 ghost use Rattle.rule_syntax.specs.Grammar.{RulesRead};
-ghost use Rattle.fixed.specs.Listed.{listed};
-ghost use Rattle.fixed.specs.Room.{extended, fits as has_room};
-ghost use Rattle.std.specs.Option.{option_map};
-ghost use Rattle.std.specs.Prelude.{◌≡◌, not, ◌||◌, [], ◌∷◌, length};
+ghost use Rattle.std.specs.Prelude.{◌≡◌, length};
 
 use crate::operand::read_word;
 use crate::rule::{Comparison, Operand, Operator, Refused, Span};
 use crate::word::{skip_spaces, split_word};
 use fixed::list::FixedList;
+use fixed::refusal::Full;
+use fixed::slice::Slice;
 
 // The operator at the front of `text`, the longest that stands there.
 fn read_operator(text: &[u8]) -> Option<(Operator, &[u8])>
@@ -26,56 +25,60 @@ fn read_operator(text: &[u8]) -> Option<(Operator, &[u8])>
     }
 }
 
-// The operand at the front of `text`, which ends the expression, with the spaces around it.
-fn read_operand<'a>(expression: &[u8], text: &'a [u8]) -> Option<(Operand, &'a [u8])>
-    requires { Within expression.now text.now }
-    ensures { seen (meant_operand expression.now) result ≡ leading_operand text.now }
-{
-    let text = skip_spaces(text);
-    let (word, rest) = split_word(text);
-    let operand = read_word(word, expression.len() - text.len())?;
-    Some((operand, skip_spaces(rest)))
+// A rule that is being read: its whole text, and the end of it that is left. What is read is taken from the front.
+#[derive(Drop)]
+struct Reader<'a> {
+    expression: &'a [u8],
+    rest: &'a [u8],
+    ghost within: { Within expression.now rest.now },
 }
 
-fn read_comparison<'a>(expression: &[u8], text: &'a [u8]) -> Option<(Comparison, &'a [u8])>
-    requires { Within expression.now text.now }
-    ensures { seen (meant expression.now) result ≡ leading_comparison text.now }
-{
-    let (left, rest) = read_operand(expression, text)?;
-    let (operator, rest) = read_operator(rest)?;
-    let (right, rest) = read_operand(expression, rest)?;
-    Some((
-        Comparison {
-            left,
-            operator,
-            right,
-        },
-        rest,
-    ))
-}
-
-// What follows the `&&` at the front of `text`.
-fn skip_and(text: &[u8]) -> Option<&[u8]>
-    ensures { option_map (λ x. x.now) result ≡ behind_and text.now }
-{
-    match text {
-        [b'&', b'&', rest @ ..] => Some(rest),
-        _ => None,
+impl<'a> Reader<'a> {
+    // An operand, with the spaces around it.
+    #[tactic(auto, using(crate::proofs::Readers::word_at_place), unfolding(crate::specs::Syntax::leading_operand))]
+    fn operand(&mut self) -> Option<Operand>
+        ensures value { reads (meant_operand self.old.expression.now) result self.new.rest.now ≡ leading_operand self.old.rest.now }
+        ensures expression { self.new.expression ≡ self.old.expression }
+    {
+        let text = skip_spaces(self.rest);
+        let (word, rest) = split_word(text);
+        let place = Slice {
+            start: self.expression.len() - text.len(),
+            len: word.len(),
+        };
+        let operand = read_word(self.expression, place)?;
+        self.rest = skip_spaces(rest);
+        Some(operand)
     }
-}
 
-// Adds a comparison where there is room; answers whether the table has been too small so far.
-fn add<const N: usize>(
-    comparison: Comparison,
-    comparisons: &mut FixedList<Comparison, N>,
-    full: bool,
-) -> bool
-    ensures answer { result ≡ (full || not (has_room N (listed comparisons.old) (comparison ∷ []))) }
-    ensures list { listed comparisons.new ≡ extended N (listed comparisons.old) (comparison ∷ []) }
-{
-    match comparisons.push(comparison) {
-        Ok(()) => full,
-        Err(_) => true,
+    fn operator(&mut self) -> Option<Operator>
+        ensures value { reads (λ o. o) result self.new.rest.now ≡ leading_operator self.old.rest.now }
+        ensures expression { self.new.expression ≡ self.old.expression }
+    {
+        let (operator, rest) = read_operator(self.rest)?;
+        self.rest = rest;
+        Some(operator)
+    }
+
+    #[tactic(auto, unfolding(crate::specs::Syntax::leading_comparison))]
+    fn comparison(&mut self) -> Option<Comparison>
+        ensures value { reads (meant self.old.expression.now) result self.new.rest.now ≡ leading_comparison self.old.rest.now }
+        ensures expression { self.new.expression ≡ self.old.expression }
+    {
+        Some(Comparison {
+            left: self.operand()?,
+            operator: self.operator()?,
+            right: self.operand()?,
+        })
+    }
+
+    // Passes over the `&&` in front.
+    fn skip_and(&mut self) -> Option<()>
+        ensures value { left_by result self.new.rest.now ≡ behind_and self.old.rest.now }
+        ensures expression { self.new.expression ≡ self.old.expression }
+    {
+        self.rest = self.rest.strip_prefix(b"&&")?;
+        Some(())
     }
 }
 
@@ -84,22 +87,20 @@ fn read_rule<const N: usize>(
     expression: &[u8],
     comparisons: &mut FixedList<Comparison, N>,
 ) -> Result<(), Refused>
-    ensures { Filled N expression.now (listed comparisons.old) result (listed comparisons.new) }
+    ensures { Filled N expression.now comparisons.old result comparisons.new }
 {
-    let mut rest = expression;
-    let mut full = false;
+    let mut reader = Reader {
+        expression,
+        rest: expression,
+    };
+    let mut room: Result<(), Full> = Ok(());
     loop {
-        let Some((comparison, behind)) = read_comparison(expression, rest) else {
-            return Err(Refused::Syntax);
-        };
-        full = add(comparison, comparisons, full);
-        if behind.is_empty() {
-            return if full { Err(Refused::Full) } else { Ok(()) };
+        let comparison = reader.comparison().ok_or(Refused::Syntax)?;
+        room = room.and(comparisons.push(comparison));
+        if reader.rest.is_empty() {
+            return room.map_err(|_| Refused::Full);
         }
-        let Some(tail) = skip_and(behind) else {
-            return Err(Refused::Syntax);
-        };
-        rest = tail;
+        reader.skip_and().ok_or(Refused::Syntax)?;
     }
 }
 
@@ -108,7 +109,7 @@ pub fn parse<const N: usize>(
     expression: &[u8],
     comparisons: &mut FixedList<Comparison, N>,
 ) -> Result<Span, Refused>
-    ensures value { answered expression.now (length (listed comparisons.old)) result (listed comparisons.new) ≡ told N (listed comparisons.old) (parsed expression.now) }
+    ensures value { answered expression.now (length comparisons.old) result comparisons.new ≡ told N comparisons.old (parsed expression.now) }
     ensures law { RulesRead }
 {
     let start = comparisons.len();

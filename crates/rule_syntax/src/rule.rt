@@ -1,6 +1,5 @@
 // What a rule is made of.
-ghost use Rattle.rule_syntax.specs.Syntax.{part};
-ghost use Rattle.std.specs.Prelude.{◌≡◌};
+use fixed::slice::Slice;
 
 #[derive(Clone, Copy, PartialEq, Eq, Debug)]
 pub enum Operator {
@@ -12,25 +11,7 @@ pub enum Operator {
     Ge,
 }
 
-// A part of the expression's bytes.
-#[derive(Clone, Copy, PartialEq, Eq, Debug)]
-pub struct Slice {
-    pub start: usize,
-    pub len: usize,
-}
-
-impl Slice {
-    // Those bytes, as far as the expression has them.
-    pub fn bytes(self, expression: &[u8]) -> &[u8]
-        ensures { result.now ≡ part self expression.now }
-    {
-        let from = self.start.min(expression.len());
-        let rest = &expression[from..];
-        let to = self.len.min(rest.len());
-        &rest[0..to]
-    }
-}
-
+// A path is a part of the expression's bytes.
 #[derive(Clone, Copy, PartialEq, Eq, Debug)]
 pub enum Operand {
     Int(i64),
@@ -47,6 +28,7 @@ pub struct Comparison {
 }
 
 // The comparisons of one rule among those of a table.
+// It is no `Slice`: that one counts bytes, and as one type a place in a text could pass for a place in a table.
 #[derive(Clone, Copy, PartialEq, Eq, Debug)]
 pub struct Span {
     pub start: usize,

@@ -2,8 +2,9 @@
 use crate::mention::mentions;
 use crate::path::first_name;
 use crate::read::parse;
-use crate::rule::{Comparison, Operand, Operator, Refused, Slice, Span};
+use crate::rule::{Comparison, Operand, Operator, Refused, Span};
 use fixed::list::FixedList;
+use fixed::slice::Slice;
 use std::test::Fail;
 
 // Each with how many comparisons it has.

@@ -1,7 +1,6 @@
 // The pieces that a text falls into before it is known what they say.
 ghost use Rattle.rule_syntax.specs.Syntax.{before_dot, behind_word, leading_word, name_byte, past_dot, unspaced, word_byte};
 ghost use Rattle.std.specs.Option.{option_map};
-ghost use Rattle.std.specs.Str.{bytes_eq};
 ghost use Rattle.std.specs.Prelude.{◌≡◌};
 
 pub fn is_name_byte(byte: u8) -> bool
@@ -21,11 +20,11 @@ fn is_word_byte(byte: u8) -> bool
 pub fn skip_spaces(text: &[u8]) -> &[u8]
     ensures { result.now ≡ unspaced text.now }
 {
-    let mut rest = text;
-    while let [b' ', tail @ ..] = rest {
-        rest = tail;
-    }
-    rest
+    let start = text
+        .iter()
+        .position(|byte| *byte != b' ')
+        .unwrap_or(text.len());
+    &text[start..]
 }
 
 // The bytes at the front of `text` that an operand may be written with, and what follows them.
@@ -33,12 +32,11 @@ pub fn split_word(text: &[u8]) -> (&[u8], &[u8])
     ensures front { result.0.now ≡ leading_word text.now }
     ensures back { result.1.now ≡ behind_word text.now }
 {
-    for (i, byte) in text.iter().enumerate() {
-        if !is_word_byte(*byte) {
-            return text.split_at(i);
-        }
-    }
-    text.split_at(text.len())
+    let len = text
+        .iter()
+        .position(|byte| !is_word_byte(*byte))
+        .unwrap_or(text.len());
+    text.split_at(len)
 }
 
 // What stands before the first point of `text`, and what behind it if there is one.
@@ -46,16 +44,8 @@ pub fn split_point(text: &[u8]) -> (&[u8], Option<&[u8]>)
     ensures front { result.0.now ≡ before_dot text.now }
     ensures back { option_map (λ x. x.now) result.1 ≡ past_dot text.now }
 {
-    for (i, byte) in text.iter().enumerate() {
-        if *byte == b'.' {
-            return (&text[0..i], Some(&text[i + 1..]));
-        }
+    match text.iter().position(|byte| *byte == b'.') {
+        Some(point) => (&text[..point], Some(&text[point + 1..])),
+        None => (text, None),
     }
-    (text, None)
-}
-
-pub fn same_bytes(text: &[u8], other: &[u8]) -> bool
-    ensures { result ≡ bytes_eq text.now other.now }
-{
-    text == other
 }

@@ -1,12 +1,14 @@
-use Rattle.std.proofs.Common.{[], Some, sym, ap, ◌∙◌}
-use Rattle.rule_syntax.specs.Syntax.{path, names_of}
-use Rattle.rule_syntax.proofs.Operands.{operand_path, operand_ill}
+use Rattle.std.proofs.Common.{◌≡◌, [], false, None, sym, ap, ◌∙◌}
+use Rattle.rule_syntax.specs.Syntax.{constant_of, every_name, meant_operand, names_of, numeric, part}
+use Rattle.std.specs.Option.{option_map}
+use Rattle.rule_syntax.proofs.Operands.{operand_named}
 use Rattle.rule_syntax.proofs.operand.read_word.Goals as goal
 
-pub returns-then-not-is_path : goal.returns-then-not-is_path
-returns-then-not-is_path c = λ s lies. sym (operand_ill c.args.word.now (sym c.if-is_numeric.ensures) (sym (c.in_default.ensures [])) (sym c.if-not-is_path.ensures))
-
 pub returns : goal.returns
-returns c = λ s lies.
-    ap (λ x. Some (path (names_of x))) lies
-    ∙ sym (operand_path c.args.word.now (sym c.if-is_numeric.ensures) (sym (c.in_default.ensures [])) (sym c.if-not-is_path.ensures))
+returns c =
+    let s = c.args.expression.now in
+    let w = part c.args.place s in
+    let e : c.of-word.result.now ≡ w = c.of-word.ensures in
+    let plain : numeric w ≡ false = ap numeric (sym e) ∙ sym c.if-is_numeric.ensures in
+    let other : constant_of w ≡ None = ap constant_of (sym e) ∙ sym (c.in_default.ensures []) in
+    ap (option_map (meant_operand s)) c.then_some.ensures ∙ operand_named s c.args.place c.is_path.result plain other (c.is_path.ensures ∙ ap (λ t. every_name (names_of t)) e)

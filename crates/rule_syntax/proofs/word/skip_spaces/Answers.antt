@@ -1,17 +1,13 @@
-use Rattle.std.proofs.Common.{◌≡◌, ◌<◌, length, get_or, sym, ◌∙◌, arith, rules}
+use Rattle.std.proofs.Common.{◌≡◌, ◌==◌, ◌∙◌, not, drop, ap, rules, tests}
+use Rattle.std.specs.List.{position}
 use Rattle.std.proofs.lemmas.List.{take_rest}
-use Rattle.std.proofs.lemmas.Bool.Decides.{nat_tests}
-use Rattle.rule_syntax.proofs.Words.{unspaced_more, unspaced_end}
+use Rattle.std.proofs.lemmas.Iterator.{YieldsList-from_slice}
+use Rattle.std.proofs.lemmas.Iterator.Search.{position_from_yields_List}
+use Rattle.rule_syntax.proofs.Words.{prefix_found}
 use Rattle.rule_syntax.proofs.word.skip_spaces.Goals as goal
 
-pub loop-rest-preserved : goal.loop-rest-preserved
-loop-rest-preserved c =
-    let some : 0 < length c.loop-rest.rest.now = search rules in
-    let space : get_or c.loop-rest.rest.now 0 0 ≡ 32 = search rules in
-    rw take_rest (c.loop-rest.invariant ∙ unspaced_more c.loop-rest.rest.now some space)
-
-pub returns-in_default : goal.returns-in_default
-returns-in_default c = sym (c.loop-rest.invariant ∙ unspaced_end c.loop-rest.rest.now (λ h e. grind (arith, nat_tests)))
-
-pub returns-in_default-2 : goal.returns-in_default-2
-returns-in_default-2 c = sym (c.loop-rest.invariant ∙ unspaced_end c.loop-rest.rest.now (λ h e. grind (arith, nat_tests)))
+pub returns : goal.returns
+returns c =
+    let s = c.args.text.now in
+    let at : c.position.result ≡ position (λ b. not (b == 32)) s = position_from_yields_List (λ b. not (b == 32)) _ _ c.position.result c.position.ensures.ran (YieldsList-from_slice s c.iter.ensures.rest) (λ x b q k. search (rules, tests)) in
+    take_rest s c.unwrap_or-start.result ∙ ap (λ k. drop k s) (prefix_found (λ b. b == 32) s c.position.result c.unwrap_or-start.result at c.unwrap_or-start.ensures)

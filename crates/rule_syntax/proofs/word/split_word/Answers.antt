@@ -1,28 +1,17 @@
-use Rattle.std.proofs.Common.{◌≡◌, ◌<◌, true, false, length, get_or, take, drop, sym, ap, ◌∙◌, rules}
+use Rattle.std.proofs.Common.{◌≡◌, ◌∙◌, not, take, drop, ap, rules, tests}
+use Rattle.std.specs.List.{position, prefix_len}
+use Rattle.std.proofs.lemmas.Iterator.{YieldsList-from_slice}
+use Rattle.std.proofs.lemmas.Iterator.Search.{position_from_yields_List}
 use Rattle.rule_syntax.specs.Syntax.{word_byte}
-use Rattle.rule_syntax.proofs.Words.{leading_more, leading_stop, leading_end}
+use Rattle.rule_syntax.proofs.Words.{prefix_found}
 use Rattle.rule_syntax.proofs.word.split_word.Goals as goal
-
-pub returns-then-not-is_word_byte : goal.returns-then-not-is_word_byte
-returns-then-not-is_word_byte c =
-    let at : c.loop-i.i < length c.args.text.now = search rules in
-    let other : word_byte (get_or c.args.text.now c.loop-i.i 0) ≡ false = sym c.if-not-is_word_byte.ensures in
-    let n = leading_stop word_byte c.args.text.now c.loop-i.i at other c.loop-i.invariant in
-    record {
-      front = c.split_at.ensures.front ∙ ap (λ k. take k c.args.text.now) (sym n);
-      back = c.split_at.ensures.back ∙ ap (λ k. drop k c.args.text.now) (sym n);
-    }
-
-pub loop-i-preserved : goal.loop-i-preserved
-loop-i-preserved c =
-    let at : c.loop-i.i < length c.args.text.now = search rules in
-    let one : word_byte (get_or c.args.text.now c.loop-i.i 0) ≡ true = sym c.if-not-is_word_byte.ensures in
-    leading_more word_byte c.args.text.now c.loop-i.i at one c.loop-i.invariant
 
 pub returns : goal.returns
 returns c =
-    let n = leading_end word_byte c.args.text.now c.loop-i.i (search rules) c.loop-i.invariant in
+    let s = c.args.text.now in
+    let at : c.position.result ≡ position (λ b. not (word_byte b)) s = position_from_yields_List (λ b. not (word_byte b)) _ _ c.position.result c.position.ensures.ran (YieldsList-from_slice s c.iter.ensures.rest) (λ x b q k. search (rules, tests)) in
+    let n : c.unwrap_or-len.result ≡ prefix_len word_byte s = prefix_found word_byte s c.position.result c.unwrap_or-len.result at c.unwrap_or-len.ensures in
     record {
-      front = search (rules, n);
-      back = search (rules, n);
+      front = c.split_at.ensures.front ∙ ap (λ k. take k s) n;
+      back = c.split_at.ensures.back ∙ ap (λ k. drop k s) n;
     }

@@ -17,7 +17,7 @@ fn alone(first: usize) -> Span
 
 impl SchemaAt<'_> {
     // The part of the schema under a key: the first of its members that has the key.
-    #[tactic(auto, using(crate::proofs::Means::members_below), unfolding(crate::specs::Entries::part_at))]
+    #[tactic(auto, using(crate::proofs::Below::members_below), unfolding(crate::specs::Entries::part_at))]
     pub fn part(self, key: &[u8]) -> Option<usize>
         ensures { result ≡ part_at self.entry.doc.text.now self.entry.doc.entries.now key.now self.entry.at }
     {
@@ -46,7 +46,7 @@ impl SchemaAt<'_> {
         ensures { result ≡ is_map_at self.entry.doc.text.now self.entry.doc.entries.now self.entry.at }
     {
         self.cell_under(b"additionalProperties")
-            .map_or(false, |cell| cell.as_bool().unwrap_or(true))
+            .is_some_and(|cell| cell.as_bool().unwrap_or(true))
     }
 
     // The text under a key.

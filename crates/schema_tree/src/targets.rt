@@ -45,7 +45,8 @@ impl Targets {
         }
     }
 
-    // How many links come before those of a group.
+    // How many links come before those of a group. Any node may be asked for it, so the sum has 128 bits.
+    // A loop, since for the `sum` of a chain the proof of its bound did not close.
     pub(crate) fn links_before(self, group: Group) -> u128
         ensures value { result ≡ links_before self group }
         ensures small { result < 2 ^ 70 }

@@ -49,6 +49,7 @@ impl SchemaTree {
     {
         let span = schema.rules();
         let first = self.rules.len();
+        // A span's numbers are spelled out: only those of a schema are known to end within a `usize`.
         for k in span.first..span.first + span.count {
             self.add_rule(RuleEntry {
                 place: schema.doc.place(k),
@@ -125,6 +126,7 @@ impl SchemaTree {
         ensures built { OnOk result (Waits levels schema.entry.doc.text.now schema.entry.doc.entries.now self.old self.new (numbers_in (targets_at schema.entry.doc.text.now schema.entry.doc.entries.now group schema.entry.at))) }
     {
         let span = schema.targets(group);
+        // Its numbers are spelled out, as those of the rules.
         for i in span.first..span.first + span.count {
             let node = self.load_node(schema.doc.schema(i), levels)?;
             let _ = self.pending.push(node);

@@ -1,6 +1,6 @@
 use Rattle.std.proofs.Common.{rules, ◌≡◌, ℕ, suc, ◌+◌, ◌-◌, ◌≤◌, List, [], ◌∷◌, ◌++◌, map, length, get_or, take, drop, None, sym, ap, ◌∙◌, subst, arith}
 use Rattle.json_values.specs.declared.table.Span.{Span}
-use Rattle.schema.proofs.Means.{links_below}
+use Rattle.schema.proofs.Below.{links_below}
 use Rattle.schema.specs.Entries.{numbers_in, place_in, rules_at, targets_at}
 use Rattle.schema.specs.Parts.{order}
 use Rattle.schema.specs.declared.document.SchemaAt.{SchemaAt}
@@ -113,20 +113,6 @@ load_links-loop-group-preserved m c =
       subst (λ gs. Takes (flat_map (λ x. flat_map f (h x)) gs) a d None) (sym more) (each_on (λ x. flat_map f (h x)) (take k order) g (progress a) (progress b) (progress d) c.loop-group.invariant.0 None c.in_ok-load_group.ensures.taken),
       subst (λ z. Waits n t es a d z) (sym ns) (waits_join n t es a b d (flat_map h (take k order)) (h g) c.loop-group.invariant.1 c.in_ok-load_group.ensures.built),
     )
-
-pub load_links-returns : goal.load_links-returns
-load_links-returns m c =
-    let t = c.args.schema.doc.text.now in
-    let es = c.args.schema.doc.entries.now in
-    let f : ℕ → List Step = steps c.args.levels t es in
-    let h : Group → List ℕ = λ g. numbers_in (targets_at t es g c.args.schema.at) in
-    let a : Tree = c.args.self.now in
-    let b : Tree = c.loop-group.self in
-    let six : c.loop-group.group-index ≡ 6 = omega arith in
-    record {
-      taken = subst (λ k. Takes (flat_map (λ g. flat_map f (h g)) (take k order)) a b None) six c.loop-group.invariant.0 ∙ ap (λ ss. taken ss (progress a)) (sym (flat_flat f h order));
-      built = subst (λ k. Waits c.args.levels t es a b (flat_map h (take k order))) six c.loop-group.invariant.1;
-    }
 
 -- ---- a node
 

@@ -46,7 +46,8 @@ impl<'a> Cursor<'a> {
         Some(head)
     }
 
-    // Goes behind the value that stands at the cursor, or stays where there is no whole one.
+    // Goes behind the value that stands at the cursor, or stays where there is no whole one. The answer is whether
+    // it went, and no position, since the cursor has that.
     pub fn skip(&mut self) -> bool
         ensures ok { result ≡ is_some (skipped (drop self.old.at self.old.bytes.now)) }
         ensures at { self.new.at ≡ left_off self.old.bytes.now self.old.at (skipped (drop self.old.at self.old.bytes.now)) }

@@ -55,7 +55,7 @@ impl<'a> Tail<'a> {
         Some((command, self.behind(1)))
     }
 
-    // A number in four bytes.
+    // A number in four bytes. Its twin of eight differs in the number's type too, and all else is `first_chunk`'s.
     fn four(self) -> Option<(u32, Tail<'a>)>
         ensures value { option_map left result ≡ front4 self.entry.rest.now }
         ensures end { IfSome result (λ r. SameEnd self.entry r.1) }

@@ -20,12 +20,6 @@ pub enum DecodeError {
     BufferShort,
 }
 
-impl From<writer::BufferShort> for DecodeError {
-    fn from(_: writer::BufferShort) -> DecodeError {
-        DecodeError::BufferShort
-    }
-}
-
 const PAD: u8 = b'=';
 
 // What four signs stand for: fewer than three octets only where the signs are padded.
@@ -128,7 +122,9 @@ fn write_all(text: &[u8], writer: &mut ByteWriter<'_>) -> Result<(), DecodeError
     let mut left = text;
     while let Some((signs, rest)) = left.split_first_chunk::<4>() {
         let group = four_signs(*signs, rest.is_empty()).ok_or(DecodeError::NotBase64)?;
-        writer.put(group.as_slice())?;
+        writer
+            .put(group.as_slice())
+            .map_err(|_| DecodeError::BufferShort)?;
         left = rest;
     }
     Ok(())

@@ -19,8 +19,8 @@ returns-in_err-group c =
     let none : c.four_signs.result ≡ None = search rules in
     absurd (some_group c.loop-signs.left.now c.in-Some.signs.now c.in-Some.rest.now c.is_empty.result t.0 t.1 t.2 c.is_empty.ensures (rw none at c.four_signs.ensures) c.loop-signs.invariant.base64)
 
-pub returns-in_err-put : goal.returns-in_err-put
-returns-in_err-put c =
+pub returns-in_err-map_err : goal.returns-in_err-map_err
+returns-in_err-map_err c =
     let t = c.in-Some.ensures.cases in
     let rest = c.in-Some.rest.now in
     let group = octets c.in_ok-group.group in

@@ -15,7 +15,7 @@ struct Complaints<'a> {
     schema: &'a CompiledSchema,
     // The keys and indexes from the root to the node; nothing at the root.
     path: Vec<u8>,
-    lines: Vec<u8>,
+    lines: &'a mut Vec<u8>,
 }
 
 // The key of a schema under which a group of links stands.
@@ -65,7 +65,7 @@ impl Complaints<'_> {
     fn push_quoted_part(&mut self, part: Option<Part>) -> Result<(), AllocError> {
         if let Some(part) = part {
             self.lines.push(b' ')?;
-            push_quoted(part.of(self.schema.document().text), &mut self.lines)?;
+            push_quoted(part.of(self.schema.document().text), self.lines)?;
         }
         Ok(())
     }
@@ -154,9 +154,7 @@ pub fn push_complaints(
         heap,
         schema,
         path: Vec::new(heap),
-        lines: Vec::new(heap),
+        lines: out,
     };
-    complaints.push_node(node, LEVELS)?;
-    out.extend_from_slice(&complaints.lines)?;
-    Ok(())
+    complaints.push_node(node, LEVELS)
 }

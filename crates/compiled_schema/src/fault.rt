@@ -35,11 +35,11 @@ impl From<Refusal> for u8 {
     }
 }
 
-impl fmt::Display for Refusal {
-    ghost output = { λ r. Some (refusal_word r) };
-
-    fn fmt<W: fmt::Write>(&self, f: &mut fmt::Formatter<W>) -> fmt::Result {
-        f.write_str(match self {
+impl Refusal {
+    pub fn word(self) -> &'static str
+        ensures { result.now ≡ refusal_word self }
+    {
+        match self {
             Refusal::Malformed => "malformed",
             Refusal::Nested => "nested",
             Refusal::Number => "number",
@@ -47,7 +47,15 @@ impl fmt::Display for Refusal {
             Refusal::TreeFull => "tree full",
             Refusal::RulesFull => "rules full",
             Refusal::ProgramsFull => "programs full",
-        })
+        }
+    }
+}
+
+impl fmt::Display for Refusal {
+    ghost output = { λ r. Some (refusal_word r) };
+
+    fn fmt<W: fmt::Write>(&self, f: &mut fmt::Formatter<W>) -> fmt::Result {
+        f.write_str(self.word())
     }
 }
 

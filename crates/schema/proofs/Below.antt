@@ -24,7 +24,7 @@ elements_below es i = of (list_of (cell_in es i))
     of None = tt
     of (Some sp) = omega arith
 
-found_below : (test : ℕ → Bool) (first n i : ℕ) → first + n ≤ i → IfSome (find test (range_with_len first n)) (λ k. k < i)
+pub found_below : (test : ℕ → Bool) (first n i : ℕ) → first + n ≤ i → IfSome (find test (range_with_len first n)) (λ k. k < i)
 found_below test first zero i h = tt
 found_below test first (suc n) i h = of (test first) (find test (range_with_len (first + 1) n)) (found_below test (first + 1) n i (omega arith))
   where

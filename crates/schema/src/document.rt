@@ -1,7 +1,7 @@
 // A schema's values, by the numbers of their entries.
-ghost use Rattle.std.specs.Prelude.{◌≡◌, ◌+◌, ◌^◌, ◌<◌, find, slice_index_or};
+ghost use Rattle.std.specs.Prelude.{◌≡◌, ◌+◌, ◌^◌, ◌<◌, IfSome, find, slice_index_or};
 ghost use Rattle.json_values.specs.Meaning.{no_entry};
-ghost use Rattle.schema.specs.Entries.{below as lower, cell_in, elements_at, key_in, members_at, numbers_in, place_in};
+ghost use Rattle.schema.specs.Entries.{EndsBy, below as lower, cell_in, elements_at, key_in, members_at, numbers_in, place_in};
 ghost use Rattle.schema.specs.Laws.{PartsMean};
 ghost use Rattle.std.specs.Str.{bytes_eq};
 
@@ -56,15 +56,19 @@ impl<'a> Document<'a> {
     }
 
     // The members of the object i.
+    #[tactic(auto, using(crate::proofs::Below::members_below))]
     pub fn members(self, i: usize) -> Option<Span>
-        ensures { result ≡ members_at self.entry.entries.now i }
+        ensures value { result ≡ members_at self.entry.entries.now i }
+        ensures within { IfSome result (EndsBy i) }
     {
         self.cell(i).as_map().map(|span| below(span, i))
     }
 
     // The items of the array i.
+    #[tactic(auto, using(crate::proofs::Below::elements_below))]
     pub fn elements(self, i: usize) -> Option<Span>
-        ensures { result ≡ elements_at self.entry.entries.now i }
+        ensures value { result ≡ elements_at self.entry.entries.now i }
+        ensures within { IfSome result (EndsBy i) }
     {
         self.cell(i).as_list().map(|span| below(span, i))
     }

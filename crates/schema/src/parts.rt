@@ -1,6 +1,7 @@
 // The parts of a schema, each by its key.
-ghost use Rattle.std.specs.Prelude.{◌≡◌, codes, unwrap_or};
-ghost use Rattle.schema.specs.Entries.{alone, additional_at, cell_under, elements_under, flag_at, format_at, is_map_at, links_at, part_at, rules_at, targets_at, text_at};
+ghost use Rattle.std.specs.Prelude.{◌≡◌, ◌<◌, IfSome, codes, unwrap_or};
+ghost use Rattle.schema.specs.Entries.{EndsBy, alone, additional_at, cell_under, elements_under, flag_at, format_at, is_map_at, links_at, part_at, rules_at, targets_at, text_at};
+ghost use Rattle.schema.specs.Laws.{PartsMean};
 
 use super::document::SchemaAt;
 use super::format::SchemaFormat;
@@ -17,9 +18,11 @@ fn alone(first: usize) -> Span
 
 impl SchemaAt<'_> {
     // The part of the schema under a key: the first of its members that has the key.
-    #[tactic(auto, using(crate::proofs::Below::members_below), unfolding(crate::specs::Entries::part_at))]
+    #[tactic(auto, using(crate::proofs::Below::members_below, crate::proofs::Below::parts_below), unfolding(crate::specs::Entries::part_at))]
     pub fn part(self, key: &[u8]) -> Option<usize>
-        ensures { result ≡ part_at self.entry.doc.text.now self.entry.doc.entries.now key.now self.entry.at }
+        ensures value { result ≡ part_at self.entry.doc.text.now self.entry.doc.entries.now key.now self.entry.at }
+        ensures within { IfSome result (λ k. k < self.entry.at) }
+        ensures means { PartsMean self.entry.doc.text.now self.entry.doc.entries.now self.entry.at }
     {
         self.doc.seek(self.doc.members(self.at)?, key)
     }
@@ -100,14 +103,16 @@ impl SchemaAt<'_> {
 
     // The entries that a group of links leads to.
     pub fn targets(self, group: Group) -> Span
-        ensures { result ≡ targets_at self.entry.doc.text.now self.entry.doc.entries.now group self.entry.at }
+        ensures value { result ≡ targets_at self.entry.doc.text.now self.entry.doc.entries.now group self.entry.at }
+        ensures within { EndsBy self.entry.at result }
     {
         self.links(group).unwrap_or_default()
     }
 
     // The entries of the rules of the schema.
     pub fn rules(self) -> Span
-        ensures { result ≡ rules_at self.entry.doc.text.now self.entry.doc.entries.now self.entry.at }
+        ensures value { result ≡ rules_at self.entry.doc.text.now self.entry.doc.entries.now self.entry.at }
+        ensures within { EndsBy self.entry.at result }
     {
         self.elements_under(b"x-kubernetes-validations")
             .unwrap_or_default()

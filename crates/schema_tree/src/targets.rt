@@ -1,5 +1,7 @@
 // Where the links of a node lead to.
 ghost use Rattle.std.specs.Prelude.{◌≡◌, ◌^◌, ◌<◌};
+ghost use Rattle.schema.specs.Entries.{EndsBy};
+ghost use Rattle.schema.specs.declared.group.Group.{Group};
 ghost use Rattle.schema_tree.specs.Nodes.{links_before, read_targets, target};
 
 use json_values::table::Span;
@@ -20,7 +22,8 @@ pub struct Targets {
 impl Targets {
     // Those of a schema.
     pub fn read(schema: SchemaAt<'_>) -> Targets
-        ensures { result ≡ read_targets schema.entry.doc.text.now schema.entry.doc.entries.now schema.entry.at }
+        ensures value { result ≡ read_targets schema.entry.doc.text.now schema.entry.doc.entries.now schema.entry.at }
+        ensures within { (g : Group) → EndsBy schema.entry.at (target result g) }
     {
         Targets {
             properties: schema.targets(Group::Properties),

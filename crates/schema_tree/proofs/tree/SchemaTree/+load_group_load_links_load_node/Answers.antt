@@ -50,7 +50,7 @@ load_group-returns-in_err-node-clause-taken m c =
     let b = progress c.loop-i.self in
     let p = err_from_is_err_and c.from_residual.result c.from_residual.ensures.1 in
     let n : end - sp.first ≡ sp.count = omega arith in
-    let all : range_with_len sp.first (end - sp.first) ≡ numbers_in (targets_at t es c.args.group c.args.schema.at) = ap (range_with_len sp.first) n ∙ ap numbers_in c.targets-span.ensures in
+    let all : range_with_len sp.first (end - sp.first) ≡ numbers_in (targets_at t es c.args.group c.args.schema.at) = ap (range_with_len sp.first) n ∙ ap numbers_in c.targets-span.ensures.value in
     let one = c.in_err-node.ensures.taken ∙ ap (λ (s : SchemaAt). taken (steps c.args.levels s.doc.text.now s.doc.entries.now s.at) b) c.schema.ensures.value in
     rw (p.1, p.2) (each_out f (range_with_len sp.first (i - sp.first)) i a b (progress c.load_node.new.self) c.loop-i.invariant.0 (range_with_len (i + 1) (end - (i + 1))) (range_with_len sp.first (end - sp.first)) _ (range_at sp.first i end c.loop-i.auto.i c.loop-i-test.true) one ∙ ap (λ ns. taken (flat_map f ns) a) all)
 

@@ -35,7 +35,7 @@ returns-in_err-add_rule-clause-taken c =
     let is : e ≡ entry k = search rules in
     let n : end - sp.first ≡ sp.count = omega arith in
     let whole : flat_map f (range_with_len sp.first (end - sp.first)) ≡ rule_steps c.args.schema.doc.text.now c.args.schema.doc.entries.now (numbers_in (rules_at c.args.schema.doc.text.now c.args.schema.doc.entries.now c.args.schema.at)) =
-    flat_map_single (λ k. rule (entry k)) (range_with_len sp.first (end - sp.first)) ∙ ap (λ ns. rule_steps c.args.schema.doc.text.now c.args.schema.doc.entries.now ns) (ap (range_with_len sp.first) n ∙ ap numbers_in c.rules-span.ensures) in
+    flat_map_single (λ k. rule (entry k)) (range_with_len sp.first (end - sp.first)) ∙ ap (λ ns. rule_steps c.args.schema.doc.text.now c.args.schema.doc.entries.now ns) (ap (range_with_len sp.first) n ∙ ap numbers_in c.rules-span.ensures.value) in
     rw (p.1, p.2) (each_out f (range_with_len sp.first (k - sp.first)) k a (progress c.loop-k.self) (progress c.add_rule.new.self) c.loop-k.invariant.0 (range_with_len (k + 1) (end - (k + 1))) (range_with_len sp.first (end - sp.first)) _ (range_at sp.first k end c.loop-k.auto.k c.loop-k-test.true) (c.in_err-add_rule.ensures.taken ∙ ap (λ r. taken (rule r ∷ []) (progress c.loop-k.self)) is) ∙ ap (λ ss. taken ss a) whole)
 
 pub loop-k-preserved : goal.loop-k-preserved

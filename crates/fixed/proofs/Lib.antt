@@ -1,1 +1,2 @@
-mod Texts
+pub mod Lists
+pub mod Texts

@@ -1,10 +1,19 @@
--- What a write into the array of a text leaves.
+-- Laws of a text of bounded length.
 use Rattle.std.proofs.Common.{◌≡◌, ℕ, ◌+◌, ◌-◌, ◌≤◌, List, ◌++◌, length, take, drop, replicate, sym, ap, ◌∙◌, arith, length-append, length-take, length-drop}
 use Rattle.std.proofs.lemmas.List.{drop-drop, drop-replicate}
-use Rattle.std.proofs.lemmas.Slice.{drop-put_mid}
+use Rattle.std.proofs.lemmas.Slice.{drop-put_mid, take-put_mid}
 use borrow.Rule.Slice.PartMut.{put_mid, post_of}
 use Rattle.fixed.specs.Texts.{Kept}
 use Rattle.fixed.specs.declared.text.BoundedText.TheInside.{Inside}
+
+-- a text has at most 1,024 bytes
+pub text_few : (t : Inside) → Kept t → length (take t.len t.bytes) ≤ 1024
+text_few t h = omega (arith, length-take t.len t.bytes, h.within)
+
+-- the first `len` of `old` with `more` written behind them
+pub written : (len k : ℕ) (old part more : List ℕ) → len ≤ length old → part ≡ more → take (len + length more) (put_mid len k old part) ≡ take len old ++ more
+written len k old part more h e =
+    take-put_mid len k old part (len + length more) (ap (λ (xs : List ℕ). len + length xs) (sym e)) h ∙ ap (λ (xs : List ℕ). take len old ++ xs) e
 
 -- bytes written right behind a text are a part of it, and zeros still lie behind them
 pub written_kept : (t : Inside) (part : List ℕ) (to : ℕ) → Kept t → to ≡ t.len + length part → to ≤ 1024

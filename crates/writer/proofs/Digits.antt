@@ -19,11 +19,15 @@ begun n ds long = record {
 }
 
 -- there is room for the digits that are left
-pub room_some : (n left from : ℕ) (ds : List ℕ) → n < 2 ^ 64 → Spelling n left from ds → 1 ≤ from
-room_some n left from ds small s =
+pub room : (n left from : ℕ) (ds : List ℕ) → n < 2 ^ 64 → Spelling n left from ds → length (decimal left) ≤ from
+room n left from ds small s =
     let a = length-decimal-le 20 n (omega arith) (omega arith) small in
     let b = ap length s.so ∙ length-append (decimal left) (drop from ds) in
-    omega (arith, length-drop from ds, decimal_nonempty left (omega arith))
+    omega (arith, length-drop from ds)
+
+-- and so for one
+pub room_some : (n left from : ℕ) (ds : List ℕ) → n < 2 ^ 64 → Spelling n left from ds → 1 ≤ from
+room_some n left from ds small s = omega (arith, room n left from ds small s, decimal_nonempty left (omega arith))
 
 module _ (n left from : ℕ) (ds : List ℕ) (small : n < 2 ^ 64) (s : Spelling n left from ds) where
   one_down : (b : ℕ) → drop (from - 1) (set ds (from - 1) b) ≡ b ∷ drop from ds

@@ -15,7 +15,7 @@ bytes_same [] (y ∷ ys) h = cc
 bytes_same (x ∷ xs) [] h = cc
 bytes_same (x ∷ xs) (y ∷ ys) h = let f = first_same x y (compare_bytes xs ys) h in cc (bytes_same xs ys f.1)
 
-bytes_itself : (xs : List ℕ) → compare_bytes xs xs ≡ Equal
+pub bytes_itself : (xs : List ℕ) → compare_bytes xs xs ≡ Equal
 unfolding compare_bytes
 bytes_itself [] = refl
 bytes_itself (x ∷ xs) = let i = bytes_itself xs in grind (arith, nat_tests)

@@ -1,5 +1,6 @@
 pub mod Cases
 pub mod Roomy
+pub mod Stacks
 pub mod Turns
 pub mod Strings
 pub mod Numbers

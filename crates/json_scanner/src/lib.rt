@@ -7,6 +7,7 @@ pub mod modes;
 mod moves;
 mod number;
 mod scanner;
+mod stack;
 mod text;
 
 pub use check::check_text;

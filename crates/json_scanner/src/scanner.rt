@@ -1,29 +1,29 @@
 // The scanner: a byte at a time, from the first to the end of a text.
 ghost use Rattle.json_scanner.specs.Holds.{Counts, Room};
 ghost use Rattle.json_scanner.specs.Machine.{arranged, counted, finish, fresh, left_with, settled_end, surroundings, turned};
-ghost use Rattle.std.specs.Prelude.{◌≡◌, reverse};
-ghost use Rattle.arrayvec.specs.ArrayVec.{array_vec_len};
+ghost use Rattle.std.specs.Prelude.{◌≡◌, length};
 
-use super::modes::{Act, Around, Container, DEPTH, Fault, Mode, Numeral, Ready, Step};
+use super::modes::{Act, Around, Fault, Mode, Numeral, Ready, Step};
 use super::number::{make_ready, settle};
-use arrayvec::ArrayVec;
+use super::stack::Stack;
 use std::marker::Model;
 
-// What may come next, the containers that are open with the innermost last, and how many values have begun.
-#[derive(Drop)]
+// What may come next, the containers that are open, and how many values have begun.
+#[derive(Clone, Copy)]
 pub struct Scanner {
     mode: Mode,
-    containers: ArrayVec<Container, DEPTH>,
+    containers: Stack,
     values: usize,
 }
 
 impl Model for Scanner {
-    ghost use Rattle.std.specs.Prelude.{reverse};
     ghost use Rattle.json_scanner.specs.Machine.{Control};
 
     ghost Value = { Control };
 
-    ghost view = { λ s. record { mode = s.mode; around = reverse s.containers.items; values = s.values } };
+    ghost view = { λ s. record { mode = s.mode; around = s.containers; values = s.values } };
+
+    ghost inverse = { λ c. record { mode = c.mode; containers = c.around; values = c.values } };
 }
 
 // The number of values after an act.
@@ -38,26 +38,24 @@ fn count(act: Act, values: usize) -> usize
 }
 
 // What an act opens and closes.
-fn arrange(containers: &mut ArrayVec<Container, DEPTH>, act: Act)
-    requires { Room act (array_vec_len containers.old) }
-    ensures { reverse containers.new.items ≡ arranged act (reverse containers.old.items) }
+fn arrange(containers: &mut Stack, act: Act)
+    requires { Room act (length containers.old) }
+    ensures { containers.new ≡ arranged act containers.old }
 {
     match act {
         Act::Open(container) => containers.push(container),
-        Act::Close => {
-            containers.pop();
-        }
+        Act::Close => containers.pop(),
         _ => {}
     }
 }
 
 // What stands around a byte.
-fn around(containers: &ArrayVec<Container, DEPTH>, place: usize, values: usize) -> Around
-    ensures { result ≡ surroundings place (reverse containers.now.items) values }
+fn around(containers: &Stack, place: usize, values: usize) -> Around
+    ensures { result ≡ surroundings place containers.now values }
 {
     Around {
         place,
-        inner: containers.last().copied(),
+        inner: containers.last(),
         depth: containers.len(),
         values,
     }
@@ -81,7 +79,7 @@ impl Scanner {
     {
         Scanner {
             mode: Mode::Want,
-            containers: ArrayVec::new(),
+            containers: Stack::new(),
             values: 0,
         }
     }

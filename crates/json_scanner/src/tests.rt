@@ -162,3 +162,14 @@ fn crowded(rt: HostRuntime) {
     text[last + 1] = b' ';
     assert_eq!(rt; check_text(&text), Ok(()));
 }
+
+// A copy goes on by itself.
+#[test]
+fn copied(rt: HostRuntime) {
+    let mut scanner = Scanner::new();
+    assert!(rt; scanner.step(0, b'[').is_ok());
+    let mut copy = scanner;
+    assert!(rt; copy.step(1, b']').is_ok());
+    assert_eq!(rt; copy.finish(2), Ok(None));
+    assert_eq!(rt; scanner.finish(1), Err(Fault::Malformed(1)));
+}

@@ -1,13 +1,11 @@
-use Rattle.std.proofs.Common.{◌∙◌, ap, subst}
-use Rattle.std.proofs.lemmas.List.{length-reverse}
+use Rattle.std.proofs.Common.{subst}
 use Rattle.json_scanner.specs.Holds.{Counts, Room}
 use Rattle.json_scanner.proofs.Roomy.{room_of}
 use Rattle.json_scanner.proofs.scanner.Scanner.step.Goals as goal
 
 pub arrange-requires : goal.arrange-requires
 arrange-requires c =
-    subst (Room c.in_ok-next.next.act) (ap (λ a. a.depth) c.around-around.ensures ∙ length-reverse c.self.inside.containers.items)
-    (room_of c.around-around.result c.in_ok-ready.ready.mode c.args.b _ c.in_ok-next.ensures).0
+    subst (λ a. Room c.in_ok-next.next.act a.depth) c.around-around.ensures (room_of c.around-around.result c.in_ok-ready.ready.mode c.args.b _ c.in_ok-next.ensures).0
 
 pub count-self-inside-requires : goal.count-self-inside-requires
 count-self-inside-requires c =

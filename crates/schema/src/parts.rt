@@ -24,7 +24,8 @@ impl SchemaAt<'_> {
         ensures within { IfSome result (λ k. k < self.entry.at) }
         ensures means { PartsMean self.entry.doc.text.now self.entry.doc.entries.now self.entry.at }
     {
-        self.doc.seek(self.doc.members(self.at)?, key)
+        let members = self.doc.members(self.at)?;
+        self.doc.seek(members, key)
     }
 
     // What stands under a key.

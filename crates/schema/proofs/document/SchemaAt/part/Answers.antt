@@ -7,7 +7,7 @@ returns-in_err-members-clause-means c = parts_mean _ _ _
 
 pub returns-clause-within : goal.returns-clause-within
 returns-clause-within c =
-    let span = c.in_ok-members.field-0 in
+    let span = c.in_ok-members.members in
     rw c.seek.ensures (found_below _ span.first span.count c.args.self.at c.in_ok-members.ensures.within)
 
 pub returns-clause-means : goal.returns-clause-means

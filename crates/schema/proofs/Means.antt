@@ -28,15 +28,15 @@ use Rattle.std.specs.Str.{bytes_eq}
 
 -- ---- lists
 
-each_joined : {A B G : Type 0} (f : A → B) (h : G → List A) (gs : List G) → each f (flat_map h gs) ≡ flat_map (λ g. each f (h g)) gs
+pub each_joined : {A B G : Type 0} (f : A → B) (h : G → List A) (gs : List G) → each f (flat_map h gs) ≡ flat_map (λ g. each f (h g)) gs
 each_joined f h [] = refl
 each_joined f h (g ∷ gs) = map-append f (h g) (flat_map h gs) ∙ ap (λ zs. each f (h g) ++ zs) (each_joined f h gs)
 
-joined_same : {A B : Type 0} (p q : A → List B) → ((g : A) → p g ≡ q g) → (gs : List A) → flat_map p gs ≡ flat_map q gs
+pub joined_same : {A B : Type 0} (p q : A → List B) → ((g : A) → p g ≡ q g) → (gs : List A) → flat_map p gs ≡ flat_map q gs
 joined_same p q h [] = refl
 joined_same p q h (g ∷ gs) = ap (λ zs. zs ++ flat_map p gs) (h g) ∙ ap (λ zs. q g ++ zs) (joined_same p q h gs)
 
-each_same : {A B : Type 0} (p q : A → B) → ((x : A) → p x ≡ q x) → (xs : List A) → each p xs ≡ each q xs
+pub each_same : {A B : Type 0} (p q : A → B) → ((x : A) → p x ≡ q x) → (xs : List A) → each p xs ≡ each q xs
 each_same p q h [] = refl
 each_same p q h (x ∷ xs) = ap (λ y. y ∷ each p xs) (h x) ∙ ap (λ ys. q x ∷ ys) (each_same p q h xs)
 
@@ -207,10 +207,10 @@ module _ (t : List ℕ) (es : List Entry) where
   links_mean i OneOf = branches_mean (codes "oneOf") i
   links_mean i AnyOf = branches_mean (codes "anyOf") i
 
-  names_mean : (i : ℕ) → each (key_in t es) (numbers_in (targets_at t es Properties i)) ≡ property_names (value_in t es i)
+  pub names_mean : (i : ℕ) → each (key_in t es) (numbers_in (targets_at t es Properties i)) ≡ property_names (value_in t es i)
   names_mean i = keys_found (part_at t es (codes "properties") i) ∙ ap (λ o. all_keys (option_and_then members o)) (part_means (codes "properties") i)
 
-  all_links_mean : (i : ℕ) → each (value_in t es) (linked_at t es i) ≡ linked (value_in t es i)
+  pub all_links_mean : (i : ℕ) → each (value_in t es) (linked_at t es i) ≡ linked (value_in t es i)
   all_links_mean i = each_joined (value_in t es) (λ g. numbers_in (targets_at t es g i)) order ∙ joined_same (λ g. each (value_in t es) (numbers_in (targets_at t es g i))) (λ g. linked_by g (value_in t es i)) (links_mean i) order
 
   -- ---- rules
@@ -257,7 +257,7 @@ module _ (t : List ℕ) (es : List Entry) where
       same None = refl
       same (Some b) = refl
 
-  rule_found : (i : ℕ) → rule_said t (rule_at t es i) ≡ rule_of (value_in t es i)
+  pub rule_found : (i : ℕ) → rule_said t (rule_at t es i) ≡ rule_of (value_in t es i)
   unfolding said
   rule_found i =
       let texts = free_at said part_in text_of text_cells i in
@@ -272,7 +272,7 @@ module _ (t : List ℕ) (es : List Entry) where
       written r m x w f None = refl
       written r m x w f (Some b) = refl
 
-  rules_found : (i : ℕ) → each (λ k. rule_said t (rule_at t es k)) (numbers_in (rules_at t es i)) ≡ rules_of (value_in t es i)
+  pub rules_found : (i : ℕ) → each (λ k. rule_said t (rule_at t es k)) (numbers_in (rules_at t es i)) ≡ rules_of (value_in t es i)
   rules_found i =
       each_same (λ k. rule_said t (rule_at t es k)) (λ k. rule_of (value_in t es k)) rule_found (numbers_in (rules_at t es i))
       ∙ (sym (map-map rule_of (value_in t es) (numbers_in (rules_at t es i)))

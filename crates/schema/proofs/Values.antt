@@ -33,7 +33,7 @@ module _ (t : List ℕ) (es : List Entry) where
           ap (λ (x : Row). x.value) (get_or_past rows i no_row long) ∙ sym (ap (meaning (λ _. t) (take i rows)) (past_null i le))
 
   -- a row has the key and the value of its entry
-  row_value : (i : ℕ) → i < length es → get_or rows i no_row ≡ record { key = key_in t es i; value = value_in t es i }
+  pub row_value : (i : ℕ) → i < length es → get_or rows i no_row ≡ record { key = key_in t es i; value = value_in t es i }
   row_value i lt =
       let r = row_is (λ _. t) es i lt in
       let k : (get_or rows i no_row).key ≡ key_in t es i = ap (λ (x : Row). x.key) r in

@@ -20,7 +20,7 @@ choose : (b : Bool) (x y : Progress × Option TreeFault) (ys : List Step) → co
 choose true x y ys = refl
 choose false x y ys = refl
 
-taken_append : (xs ys : List Step) (p : Progress) → taken (xs ++ ys) p ≡ go_on (taken xs p) ys
+pub taken_append : (xs ys : List Step) (p : Progress) → taken (xs ++ ys) p ≡ go_on (taken xs p) ys
 unfolding taken
 taken_append [] ys p = refl
 taken_append (node place ∷ xs) ys p = ap (λ z. cond (ltb p.nodes 512) z (p, Some (TreeFull place))) (taken_append xs ys (with_node p)) ∙ choose (ltb p.nodes 512) (taken xs (with_node p)) (p, Some (TreeFull place)) ys

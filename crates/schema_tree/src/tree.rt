@@ -102,7 +102,8 @@ impl SchemaTree {
 
     // The nodes: those that the links of one node lead to beside each other, and the root last.
     pub fn nodes(&self) -> &[Node]
-        ensures { result.now ≡ self.now.nodes }
+        ensures value { result.now ≡ self.now.nodes }
+        ensures few { length result.now ≤ 512 }
     {
         self.nodes.as_slice()
     }

@@ -8,7 +8,7 @@ use Rattle.schema.specs.declared.group.Group.{Group}
 use Rattle.schema.specs.declared.group.Group.TheVariants.{Properties, Items, Additional, AllOf, OneOf, AnyOf}
 use Rattle.schema_tree.proofs.Lists.{take_within}
 use Rattle.schema_tree.specs.Nodes.{group_nodes, links_before, place, target}
-use Rattle.schema_tree.specs.Stands.{EachStands, GroupsStand, Stands, next_nodes, size}
+use Rattle.schema_tree.specs.Stands.{EachStands, GroupPartsStand, GroupsStand, PartsStand, Stands, Tables, next_nodes, size}
 use Rattle.schema_tree.specs.declared.node.Node.{Node}
 use Rattle.schema_tree.specs.declared.targets.Targets.{Targets}
 use Rattle.std.proofs.lemmas.Grind.{flat_map-append}
@@ -52,25 +52,31 @@ module _ (P : ℕ → Node → Value → Type 0) (f : Value → ℕ) where
   back n [] (u ∷ us) bs h = absurd h
   back n (r ∷ rs) (u ∷ us) bs h = back (n + f u) rs us bs h.1
 
+  -- where a node has as many links of each group as the schema s, and they stand in the table, so do the nodes of a group
+  group_stands : (tables : Tables) (n : ℕ) (row : Node) (s : Value) → ((g : Group) → (target row.targets g).count ≡ length (linked_by g s)) → row.links + length (linked s) ≤ length tables.nodes → EachStands P f n (next_nodes tables row (length (linked s))) (linked s) → (g : Group) → (m : ℕ) × EachStands P f m (group_nodes tables.nodes row g) (linked_by g s)
+  group_stands tables n row s counts links_in stand g =
+      let x : Targets = row.targets in
+      let us : List Value = flat_map (λ i. linked_by i s) (take (place g) order) in
+      let vs : List Value = linked_by g s in
+      let ws : List Value = flat_map (λ i. linked_by i s) (drop (place g + 1) order) in
+      let all : linked s ≡ us ++ (vs ++ ws) = ap (flat_map (λ i. linked_by i s)) (split g) ∙ flat_map-append (λ i. linked_by i s) (take (place g) order) (g ∷ drop (place g + 1) order) in
+      let long : length us ≡ links_before x g = length-flat_map (λ i. linked_by i s) (take (place g) order) ∙ sum_same (λ i. length (linked_by i s)) (λ i. (target x i).count) (λ i. sym (counts i)) (take (place g) order) in
+      let rows : List Node = next_nodes tables row (length (linked s)) in
+      let rest = back n rows us (vs ++ ws) (subst (EachStands P f n rows) all stand) in
+      let these = front rest.0 (drop (length us) rows) vs ws rest.1 in
+      let fits : length us + length vs ≤ length (linked s) = omega (arith, ap length all, length-append us (vs ++ ws), length-append vs ws) in
+      let inside : length (linked s) ≤ length (drop row.links tables.nodes) = omega (arith, links_in, length-drop row.links tables.nodes) in
+      let same : take (length vs) (drop (length us) rows) ≡ group_nodes tables.nodes row g =
+      take_within (drop row.links tables.nodes) (length (linked s)) (length us) (length vs) fits inside
+      ∙ (ap (take (length vs)) (drop-drop (length us) row.links tables.nodes)
+      ∙ (ap (λ m. take (length vs) (drop (row.links + m) tables.nodes)) long
+      ∙ ap (λ m. take m (drop (row.links + links_before x g) tables.nodes)) (sym (counts g)))) in
+      (rest.0, subst (λ (z : List Node). EachStands P f rest.0 z vs) same these)
+
 pub groups_stand : GroupsStand
 unfolding Stands
-groups_stand k t es tables n row s h g =
-    let x : Targets = row.targets in
-    let d = h.2 in
-    let us : List Value = flat_map (λ i. linked_by i s) (take (place g) order) in
-    let vs : List Value = linked_by g s in
-    let ws : List Value = flat_map (λ i. linked_by i s) (drop (place g + 1) order) in
-    let all : linked s ≡ us ++ (vs ++ ws) = ap (flat_map (λ i. linked_by i s)) (split g) ∙ flat_map-append (λ i. linked_by i s) (take (place g) order) (g ∷ drop (place g + 1) order) in
-    let long : length us ≡ links_before x g = length-flat_map (λ i. linked_by i s) (take (place g) order) ∙ sum_same (λ i. length (linked_by i s)) (λ i. (target x i).count) (λ i. sym (d.counts i)) (take (place g) order) in
-    let rows : List Node = next_nodes tables row (length (linked s)) in
-    let st = subst (EachStands (Stands k t es tables) (size k) (n + 1) rows) all h.3 in
-    let rest = back (Stands k t es tables) (size k) (n + 1) rows us (vs ++ ws) st in
-    let these = front (Stands k t es tables) (size k) rest.0 (drop (length us) rows) vs ws rest.1 in
-    let fits : length us + length vs ≤ length (linked s) = omega (arith, ap length all, length-append us (vs ++ ws), length-append vs ws) in
-    let inside : length (linked s) ≤ length (drop row.links tables.nodes) = omega (arith, d.links_in, length-drop row.links tables.nodes) in
-    let same : take (length vs) (drop (length us) rows) ≡ group_nodes tables.nodes row g =
-    take_within (drop row.links tables.nodes) (length (linked s)) (length us) (length vs) fits inside
-    ∙ (ap (take (length vs)) (drop-drop (length us) row.links tables.nodes)
-    ∙ (ap (λ m. take (length vs) (drop (row.links + m) tables.nodes)) long
-    ∙ ap (λ m. take m (drop (row.links + links_before x g) tables.nodes)) (sym (d.counts g)))) in
-    (rest.0, subst (λ (z : List Node). EachStands (Stands k t es tables) (size k) rest.0 z vs) same these)
+groups_stand k t es tables n row s h g = group_stands (Stands k t es tables) (size k) tables (n + 1) row s h.2.parts.counts h.2.parts.links_in h.3 g
+
+pub group_parts_stand : GroupPartsStand
+unfolding PartsStand
+group_parts_stand k t es tables n row s h g = group_stands (PartsStand k t es tables) (size k) tables (n + 1) row s h.1.counts h.1.links_in h.2 g

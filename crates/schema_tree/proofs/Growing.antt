@@ -4,7 +4,7 @@ use Rattle.json_values.specs.Value.{Value, null}
 use Rattle.json_values.specs.declared.table.Entry.{Entry}
 use Rattle.schema.specs.Laws.{rule_said}
 use Rattle.schema.specs.Parts.{linked}
-use Rattle.schema_tree.specs.Stands.{Describes, EachStands, Stands, Tables, next_nodes, size, total}
+use Rattle.schema_tree.specs.Stands.{Describes, EachStands, HasParts, Stands, Tables, next_nodes, size, total}
 use Rattle.schema_tree.specs.declared.node.Node.{Node}
 use Rattle.schema_tree.specs.declared.node.RuleEntry.{RuleEntry}
 use Rattle.schema_tree.proofs.Lists.{within_stays}
@@ -40,8 +40,8 @@ pub record Grown (a b : Tables) : Type 0 where
   pub rules : b.rules ≡ a.rules ++ more_rules
 
 module _ (t : List ℕ) (es : List Entry) (a b : Tables) (g : Grown a b) where
-  pub describes_stays : (row : Node) (s : Value) → Describes t es a row s → Describes t es b row s
-  describes_stays row s d = record {
+  pub parts_stay : (row : Node) (s : Value) → HasParts t es a row s → HasParts t es b row s
+  parts_stay row s d = record {
     maps = d.maps;
     nullable = d.nullable;
     preserves = d.preserves;
@@ -49,12 +49,14 @@ module _ (t : List ℕ) (es : List Entry) (a b : Tables) (g : Grown a b) where
     format = d.format;
     default = d.default;
     names = d.names;
-    links = d.links;
     counts = d.counts;
     rules = ap (each (λ (r : RuleEntry). rule_said t r.rule)) (ap (λ (z : List RuleEntry). take row.rules.count (drop row.rules.first z)) g.rules ∙ within_stays a.rules g.more_rules row.rules.first row.rules.count d.rules_in) ∙ d.rules;
     rules_in = omega (arith, d.rules_in, ap length g.rules, length-append a.rules g.more_rules);
     links_in = omega (arith, d.links_in, ap length g.nodes, length-append a.nodes g.more_nodes);
   }
+
+  pub describes_stays : (row : Node) (s : Value) → Describes t es a row s → Describes t es b row s
+  describes_stays row s d = record { parts = parts_stay row s d.parts; links = d.links }
 
   pub nodes_stay : (row : Node) (n : ℕ) → row.links + n ≤ length a.nodes → next_nodes b row n ≡ next_nodes a row n
   nodes_stay row n h = ap (λ (z : List Node). take n (drop row.links z)) g.nodes ∙ within_stays a.nodes g.more_nodes row.links n h
@@ -67,5 +69,5 @@ module _ (t : List ℕ) (es : List Entry) (a b : Tables) (g : Grown a b) where
     h.1,
     describes_stays row s h.2,
     each_implies (Stands k t es a) (Stands k t es b) (size k) (λ m r v. stands_stays k m r v) (n + 1) (next_nodes b row (length (linked s))) (linked s)
-        (subst (λ (z : List Node). EachStands (Stands k t es a) (size k) (n + 1) z (linked s)) (sym (nodes_stay row (length (linked s)) h.2.links_in)) h.3),
+        (subst (λ (z : List Node). EachStands (Stands k t es a) (size k) (n + 1) z (linked s)) (sym (nodes_stay row (length (linked s)) h.2.parts.links_in)) h.3),
   )

@@ -62,18 +62,20 @@ module _ (t : List ℕ) (es : List Entry) (i : ℕ) where
   describes number links before more tabs rs ls =
       let m = parts_mean t es i in
       record {
-        maps = m.maps;
-        nullable = m.flags (codes "nullable");
-        preserves = m.flags (codes "x-kubernetes-preserve-unknown-fields");
-        embeds = m.flags (codes "x-kubernetes-embedded-resource");
-        format = m.formats;
-        default = m.parts (codes "default");
-        names = m.names;
+        parts = record {
+          maps = m.maps;
+          nullable = m.flags (codes "nullable");
+          preserves = m.flags (codes "x-kubernetes-preserve-unknown-fields");
+          embeds = m.flags (codes "x-kubernetes-embedded-resource");
+          format = m.formats;
+          default = m.parts (codes "default");
+          names = m.names;
+          counts = λ g. ap (λ (sp : Span). sp.count) (targets_are g) ∙ counts_are g;
+          rules = ap (λ (z : List RuleEntry). each (λ (r : RuleEntry). rule_said t r.rule) (take (rules_at t es i).count (drop (length before) z))) rs ∙ (ap (each (λ (r : RuleEntry). rule_said t r.rule)) (part_behind before entries more (rules_at t es i).count entries_length) ∙ entries_said);
+          rules_in = omega (arith, ap length rs, length-append (before ++ entries) more, length-append before entries, entries_length);
+          links_in = ls;
+        };
         links = λ g. ap (λ sp. each (value_in t es) (numbers_in sp)) (targets_are g) ∙ m.links g;
-        counts = λ g. ap (λ (sp : Span). sp.count) (targets_are g) ∙ counts_are g;
-        rules = ap (λ (z : List RuleEntry). each (λ (r : RuleEntry). rule_said t r.rule) (take (rules_at t es i).count (drop (length before) z))) rs ∙ (ap (each (λ (r : RuleEntry). rule_said t r.rule)) (part_behind before entries more (rules_at t es i).count entries_length) ∙ entries_said);
-        rules_in = omega (arith, ap length rs, length-append (before ++ entries) more, length-append before entries, entries_length);
-        links_in = ls;
       }
 
 -- a schema in which nothing is read
@@ -85,18 +87,20 @@ unread_built t es i a b is = subst (λ z. Built 0 t es a z (i ∷ []) (unread_no
       refl,
       refl,
       record {
-        maps = refl;
-        nullable = refl;
-        preserves = refl;
-        embeds = refl;
-        format = refl;
-        default = refl;
-        names = refl;
+        parts = record {
+          maps = refl;
+          nullable = refl;
+          preserves = refl;
+          embeds = refl;
+          format = refl;
+          default = refl;
+          names = refl;
+          counts = none;
+          rules = refl;
+          rules_in = omega arith;
+          links_in = omega arith;
+        };
         links = no_links;
-        counts = none;
-        rules = refl;
-        rules_in = omega arith;
-        links_in = omega arith;
       },
     ),
     tt,

@@ -18,7 +18,7 @@ pub record Tables : Type 0 where
   pub rules : List RuleEntry
 
 -- a node has the parts of the schema s
-pub record Describes (t : List ℕ) (es : List Entry) (tables : Tables) (row : Node) (s : Value) : Type 0 where
+pub record HasParts (t : List ℕ) (es : List Entry) (tables : Tables) (row : Node) (s : Value) : Type 0 where
   pub maps : row.is_map ≡ is_map s
   pub nullable : row.nullable ≡ flag (codes "nullable") s
   pub preserves : row.preserve_unknown_fields ≡ flag (codes "x-kubernetes-preserve-unknown-fields") s
@@ -26,11 +26,15 @@ pub record Describes (t : List ℕ) (es : List Entry) (tables : Tables) (row : N
   pub format : row.format ≡ format_of s
   pub default : option_map (value_in t es) row.default ≡ part (codes "default") s
   pub names : each (key_in t es) (numbers_in row.targets.properties) ≡ property_names s
-  pub links : (g : Group) → each (value_in t es) (numbers_in (target row.targets g)) ≡ linked_by g s
   pub counts : (g : Group) → (target row.targets g).count ≡ length (linked_by g s)
   pub rules : each (λ r. rule_said t r.rule) (take row.rules.count (drop row.rules.first tables.rules)) ≡ rules_of s
   pub rules_in : row.rules.first + row.rules.count ≤ length tables.rules
   pub links_in : row.links + length (linked s) ≤ length tables.nodes
+
+-- and its links lead to the schemas that those of s lead to
+pub record Describes (t : List ℕ) (es : List Entry) (tables : Tables) (row : Node) (s : Value) : Type 0 where
+  pub parts : HasParts t es tables row s
+  pub links : (g : Group) → each (value_in t es) (numbers_in (target row.targets g)) ≡ linked_by g s
 
 -- P of each node and schema, and of the node's number, where `size` says how many nodes a schema has
 abbrev pub EachStands : (ℕ → Node → Value → Type 0) → (Value → ℕ) → ℕ → List Node → List Value → Type 0
@@ -58,8 +62,20 @@ Stands zero t es tables n row s = (row.number ≡ n) × (value_in t es row.«ent
 Stands (suc k) t es tables n row s =
     (row.number ≡ n) × (value_in t es row.«entry» ≡ s) × Describes t es tables row s × EachStands (Stands k t es tables) (size k) (n + 1) (next_nodes tables row (length (linked s))) (linked s)
 
+-- the same of the parts alone: which entries the nodes and their links name is left open
+unfoldable pub PartsStand : ℕ → List ℕ → List Entry → Tables → ℕ → Node → Value → Type 0
+PartsStand zero t es tables n row s = (row.number ≡ n) × HasParts t es tables row null
+PartsStand (suc k) t es tables n row s =
+    (row.number ≡ n) × HasParts t es tables row s × EachStands (PartsStand k t es tables) (size k) (n + 1) (next_nodes tables row (length (linked s))) (linked s)
+
 -- the nodes of a group of links are the schemas that the group leads to, with one level less
 abbrev pub GroupsStand : Type 0
 GroupsStand =
     (k : ℕ) (t : List ℕ) (es : List Entry) (tables : Tables) (n : ℕ) (row : Node) (s : Value) →
     Stands (suc k) t es tables n row s → (g : Group) → (m : ℕ) × EachStands (Stands k t es tables) (size k) m (group_nodes tables.nodes row g) (linked_by g s)
+
+-- the same of the parts alone
+abbrev pub GroupPartsStand : Type 0
+GroupPartsStand =
+    (k : ℕ) (t : List ℕ) (es : List Entry) (tables : Tables) (n : ℕ) (row : Node) (s : Value) →
+    PartsStand (suc k) t es tables n row s → (g : Group) → (m : ℕ) × EachStands (PartsStand k t es tables) (size k) m (group_nodes tables.nodes row g) (linked_by g s)

@@ -4,7 +4,7 @@ ghost use Rattle.schema.specs.Entries.{value_in};
 ghost use Rattle.schema_tree.specs.Builds.{progress, tables};
 ghost use Rattle.schema_tree.specs.Loads.{Loaded, unloaded};
 ghost use Rattle.schema_tree.specs.Nodes.{group_nodes};
-ghost use Rattle.schema_tree.specs.Stands.{GroupsStand};
+ghost use Rattle.schema_tree.specs.Stands.{GroupPartsStand, GroupsStand};
 ghost use Rattle.schema_tree.specs.Steps.{steps, taken};
 ghost use Rattle.std.specs.Result.{result_err};
 
@@ -112,6 +112,7 @@ impl SchemaTree {
     pub fn linked(&self, node: Node, group: Group) -> &[Node]
         ensures value { result.now ≡ group_nodes self.now.nodes node group }
         ensures stand { GroupsStand }
+        ensures parts { GroupPartsStand }
     {
         let nodes = self.nodes.as_slice();
         let first = node.links as u128 + node.targets.links_before(group);

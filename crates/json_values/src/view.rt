@@ -9,6 +9,7 @@ use super::parts::Part;
 use super::stores::Stores;
 use super::table::{Entry, Span};
 use order::compare_bytes;
+use std::cmp::Ordering;
 
 // The entries of a table, and the stores that hold their texts.
 #[derive(Clone, Copy)]
@@ -41,16 +42,23 @@ impl<'a> View<'a> {
     }
 
     // The number of the member of `span` that has the key, by halves: members stand in ascending order of their keys,
-    // as they do where the map is ordered.
+    // as they do where the map is ordered. It ends at the first key that is equal, which `binary_search_by` does not.
     #[tactic(auto, using(crate::proofs::Entries::ascends))]
     pub fn member(self, span: Span, key: &[u8]) -> Option<usize>
         ensures found { Finds (texts_of self.entry.stores) self.entry.entries.now span key.now result }
         ensures ordered { OrderedAscend }
     {
         let members = span.of(self.entries);
-        let i = members
-            .binary_search_by(|member| compare_bytes(self.text(member.key), key))
-            .ok()?;
-        Some(span.first + i)
+        let mut low = 0;
+        let mut high = members.len();
+        while low < high {
+            let middle = low + (high - low) / 2;
+            match compare_bytes(self.text(members[middle].key), key) {
+                Ordering::Less => low = middle + 1,
+                Ordering::Equal => return Some(span.first + middle),
+                Ordering::Greater => high = middle,
+            }
+        }
+        None
     }
 }

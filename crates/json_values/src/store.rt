@@ -1,5 +1,5 @@
 // The bytes of the texts that were read, in memory that is taken once.
-ghost use Rattle.std.specs.Prelude.{◌≡◌, [], ◌∷◌, length, take, IfOk};
+ghost use Rattle.std.specs.Prelude.{◌≡◌, ◌≤◌, [], ◌∷◌, length, take, IfOk};
 ghost use Rattle.fixed.specs.Room.{Extends, extended, fits, granted};
 ghost use Rattle.json_values.specs.Zeros.{filled};
 
@@ -40,7 +40,8 @@ impl Store {
 
     // How many bytes of text it holds.
     pub fn len(&self) -> usize
-        ensures { result ≡ length self.now }
+        ensures value { result ≡ length self.now }
+        ensures few { result ≤ 65535 }
     {
         self.len
     }
@@ -55,7 +56,8 @@ impl Store {
 
     // The texts alone.
     pub fn text(&self) -> &[u8]
-        ensures { result.now ≡ self.now }
+        ensures value { result.now ≡ self.now }
+        ensures few { length result.now ≤ 65535 }
     {
         &self.bytes[..self.len]
     }

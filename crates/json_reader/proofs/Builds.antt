@@ -1,5 +1,5 @@
 -- The rest of a text, a step at a time, and that what was there before stays.
-use Rattle.std.proofs.Common.{◌≡◌, ℕ, ◌+◌, ◌<◌, ◌≤◌, min, Bool, true, false, cond, List, [], ◌∷◌, ◌++◌, length, get_or, take, drop, Some, None, Ok, Err, Option, Result, sym, ap, ◌∙◌, arith, length-take}
+use Rattle.std.proofs.Common.{◌≡◌, ℕ, ◌+◌, ◌<◌, ◌≤◌, min, Bool, true, false, cond, List, [], ◌∷◌, ◌++◌, length, get_or, take, drop, Some, None, Ok, Err, Option, sym, ap, ◌∙◌, arith, length-take}
 use Rattle.fixed.specs.Listed.{last}
 use Rattle.fixed.specs.Room.{extended, fits}
 use Rattle.json_values.specs.declared.parts.Source.{Source}

@@ -1,11 +1,9 @@
 -- What the scanner's frames have of rows, and where they may stand.
-use Rattle.std.proofs.Common.{◌≡◌, ℕ, ◌^◌, ◌≤◌, true, List, [], ◌∷◌, ◌++◌}
+use Rattle.std.proofs.Common.{ℕ, List, [], ◌∷◌, ◌++◌}
 use Rattle.json_values.specs.Meaning.{Row}
 use Rattle.json_scanner.specs.Grammar.{Members}
 use Rattle.json_scanner.specs.Grammar as written
 use Rattle.json_scanner.specs.Machine.{Frame, bare, sole, items, fields, field}
-use Rattle.json_scanner.specs.declared.modes.Figures.{Figures}
-use Rattle.json_scanner.specs.declared.modes.Figures.TheVariants as figures
 use Rattle.json_scanner.specs.declared.modes.Hex.TheVariants as hexes
 use Rattle.json_scanner.specs.declared.modes.Inside.{Inside}
 use Rattle.json_scanner.specs.declared.modes.Inside.TheVariants as inside
@@ -104,14 +102,6 @@ Around (g ∷ gs) = Ready g gs × Around gs
 
 -- ---- the modes
 
--- an integer with a sign is not below -2^63
-abbrev pub Sized : Figures → Type 0
-Sized figures.Minus = Unit {0}
-Sized (figures.Whole minus n) = minus ≡ true → n ≤ 2 ^ 63
-Sized figures.Point = Unit {0}
-Sized figures.Power = Unit {0}
-Sized figures.Sign = Unit {0}
-
 abbrev pub Quoting : Role → Frame → List Frame → Type 0
 Quoting role.Key f gs = Keyed f gs
 Quoting role.Value f gs = Ready f gs
@@ -124,7 +114,7 @@ Fit mode.NextKey f gs = Keyed f gs
 Fit mode.Colon f gs = Named f gs
 Fit mode.After f gs = Done f gs
 Fit (mode.Word w) f gs = Ready f gs
-Fit (mode.Number n from) f gs = Ready f gs × Sized n
+Fit (mode.Number n from) f gs = Ready f gs
 Fit (mode.Text r x) f gs = Quoting r f gs
 
 -- a value has begun, and is not yet put

@@ -1,47 +1,45 @@
 -- What is built of a text, and the value that the machine reads.
-use Rattle.std.proofs.Common.{◌≡◌, ℕ, suc, ◌+◌, ◌<◌, ◌≤◌, min, Bool, true, false, cond, ltb, leb, List, [], ◌∷◌, ◌++◌, map, length, get_or, pos, neg_ℤ, Some, None, Ok, Err, Option, Result, sym, refl, ap, ◌∙◌, subst, arith}
+use Rattle.std.proofs.Common.{◌≡◌, ℕ, suc, ◌+◌, ◌<◌, ◌≤◌, Bool, true, false, cond, ltb, leb, List, [], ◌∷◌, ◌++◌, map, length, get_or, pos, neg_ℤ, Ok, Err, Option, Result, sym, refl, ap, ◌∙◌, subst, arith}
 use Rattle.json_values.specs.declared.parts.Source.{Source}
+use Rattle.json_values.specs.declared.table.Cell.TheVariants as cell
 use Rattle.json_values.specs.declared.table.Entry.{Entry}
 use Rattle.json_values.specs.Meaning.{Row, no_row, meaning, row_of, rows_of}
 use Rattle.json_values.specs.Value as value
 use Rattle.json_scanner.proofs.Roomy.{moved-roomy, Roomy}
 use Rattle.json_scanner.specs.Grammar.{Tree}
 use Rattle.json_scanner.specs.Grammar as written
-use Rattle.json_scanner.specs.Bytes.{Moved, readied, settled, settled_figures, counted_in, still, figure, moved, then, valued as fitted}
-use Rattle.json_scanner.specs.Machine.{Control, Frame, bare, sole, items, fields, field, kind, kinds, put, naming, wrapped, State, control, performed, prepared, with_number, carried, stepped, step, only, ended, finished, run, surroundings, arranged, arrived, counted, innermost, settled_end, finish, turned, closed}
-use Rattle.json_scanner.specs.declared.modes.Act.{Act}
-use Rattle.json_scanner.specs.declared.modes.Act.TheVariants as act
+use Rattle.json_scanner.specs.Bytes.{Moved, readied, settled, settled_figures, counted_in, still, figure, moved, then}
+use Rattle.json_scanner.specs.Machine.{Control, Frame, bare, sole, items, fields, field, kinds, wrapped, State, control, performed, prepared, carried, stepped, step, only, ended, finished, run, surroundings, arranged, arrived, counted, innermost, settled_end, finish, turned}
 use Rattle.json_scanner.specs.declared.modes.Container.{Container}
-use Rattle.json_scanner.specs.declared.modes.Container.TheVariants as container
 use Rattle.json_scanner.specs.declared.modes.Fault.{Fault}
 use Rattle.json_scanner.specs.declared.modes.Figures.{Figures}
 use Rattle.json_scanner.specs.declared.modes.Figures.TheVariants as figures
 use Rattle.json_scanner.specs.declared.modes.Mode.{Mode}
 use Rattle.json_scanner.specs.declared.modes.Mode.TheVariants as mode
-use Rattle.json_scanner.specs.declared.modes.Number.TheVariants as number
 use Rattle.json_scanner.specs.declared.modes.Numeral.{Numeral}
 use Rattle.json_scanner.specs.declared.modes.Ready.{Ready as Readied}
 use Rattle.json_reader.proofs.Cores.{Over, Means, core_length}
-use Rattle.json_reader.proofs.Frames.{all_rows, Ready, Done, Fit, Sized}
+use Rattle.json_reader.proofs.Frames.{all_rows, Ready, Done, Fit}
 use Rattle.json_reader.proofs.Holding.{Holds, put_holds, perform_holds}
 use Rattle.json_reader.proofs.Turning.{Good, moved_good}
 use Rattle.json_reader.specs.Building.{Built, acted, built, building, ended_with, number_cell}
 use Rattle.json_reader.specs.Values.{value_of}
-use Rattle.std.proofs.lemmas.Bool.{cond_both, cond-true, le-leb, leb-false}
+use Rattle.std.proofs.lemmas.Bool.{cond_both, leb-false}
 use Rattle.json_scanner.proofs.Bridge.{kinds_number, tracks, made as held_as}
 use Rattle.std.proofs.lemmas.List.{append-nil}
 
 -- ---- the end of a number
 
-number_means : (source : Source) (w : List ℕ) (t : List Entry) (g : Bool) (n : ℕ) → Sized (figures.Whole g n) → Means source w t (number_cell (fitted g n)) (written.number g n)
+number_means : (source : Source) (w : List ℕ) (t : List Entry) (g : Bool) (n : ℕ) → Means source w t (number_cell g n) (written.number g n)
 unfolding value_of
-number_means source w t true n s texts ov later =
-    let l : n ≤ 9223372036854775808 = s refl in
-    let least : min n 9223372036854775808 ≡ n = omega arith in
-    ap (λ k. value.int (neg_ℤ (pos k))) least ∙ sym (cond-true (leb n 9223372036854775808) (value.int (neg_ℤ (pos n))) (value.uint n) (le-leb n 9223372036854775808 l))
-number_means source w t false n s texts ov later = either (ltb n 9223372036854775808)
+number_means source w t true n texts ov later = either (leb n 9223372036854775808)
   where
-    either : (c : Bool) → meaning texts (rows_of texts (t ++ later)) (number_cell (cond c (number.Int (pos n)) (number.Uint n))) ≡ cond c (value.int (pos n)) (value.uint n)
+    either : (c : Bool) → meaning texts (rows_of texts (t ++ later)) (cond c (cell.Int (neg_ℤ (pos n))) (cell.Uint n)) ≡ cond c (value.int (neg_ℤ (pos n))) (value.uint n)
+    either true = refl
+    either false = refl
+number_means source w t false n texts ov later = either (ltb n 9223372036854775808)
+  where
+    either : (c : Bool) → meaning texts (rows_of texts (t ++ later)) (cond c (cell.Int (pos n)) (cell.Uint n)) ≡ cond c (value.int (pos n)) (value.uint n)
     either true = refl
     either false = refl
 
@@ -50,20 +48,20 @@ module _ (source : Source) (a b i : ℕ) (m : Built) (st : State) (h : Holds sou
   Prepared (Ok r) = Holds source a b i (ended_with m r.number) (prepared r st)
   Prepared (Err f) = Unit {0}
 
-  whole-holds : (g : Bool) (n from : ℕ) → Ready st.top st.below → Sized (figures.Whole g n) → Prepared (counted_in g n from st.values)
-  whole-holds g n from ready sized = cond_both (leb 4096 st.values) _ _ Prepared (λ _. tt)
+  whole-holds : (g : Bool) (n from : ℕ) → Ready st.top st.below → Prepared (counted_in g n from st.values)
+  whole-holds g n from ready = cond_both (leb 4096 st.values) _ _ Prepared (λ _. tt)
       (λ e.
-      put_holds h (number_cell (fitted g n)) from (written.number g n) m.notes.begun st.chars (st.values + 1) i mode.After ready (number_means source m.text m.table g n sized) h.begun h.chars (omega (arith, h.counts)) (omega (arith, leb-false 4096 st.values e)) (omega arith) refl)
+      put_holds h (number_cell g n) from (written.number g n) m.notes.begun st.chars (st.values + 1) i mode.After ready (number_means source m.text m.table g n) h.begun h.chars (omega (arith, h.counts)) (omega (arith, leb-false 4096 st.values e)) (omega arith) refl)
 
   same_mode : (n : Mode) → st.mode ≡ n → Prepared (Ok (still n st.values))
   same_mode n e = subst (λ (z : Mode). Holds source a b i m (record { mode = z; values = st.values; chars = st.chars; top = st.top; below = st.below })) e h
 
-  figures_holds : (g : Figures) (from : ℕ) → st.mode ≡ mode.Number g from → Ready st.top st.below → Sized g → Prepared (settled_figures g from st.values)
-  figures_holds figures.Minus from e r s = same_mode (mode.Number figures.Minus from) e
-  figures_holds (figures.Whole g n) from e r s = whole-holds g n from r s
-  figures_holds figures.Point from e r s = same_mode (mode.Number figures.Point from) e
-  figures_holds figures.Power from e r s = same_mode (mode.Number figures.Power from) e
-  figures_holds figures.Sign from e r s = same_mode (mode.Number figures.Sign from) e
+  figures_holds : (g : Figures) (from : ℕ) → st.mode ≡ mode.Number g from → Ready st.top st.below → Prepared (settled_figures g from st.values)
+  figures_holds figures.Minus from e r = same_mode (mode.Number figures.Minus from) e
+  figures_holds (figures.Whole g n) from e r = whole-holds g n from r
+  figures_holds figures.Point from e r = same_mode (mode.Number figures.Point from) e
+  figures_holds figures.Power from e r = same_mode (mode.Number figures.Power from) e
+  figures_holds figures.Sign from e r = same_mode (mode.Number figures.Sign from) e
 
   settled_at : (n : Mode) → st.mode ≡ n → Fit n st.top st.below → Prepared (settled n st.values)
   settled_at mode.Want e f = same_mode mode.Want e
@@ -73,7 +71,7 @@ module _ (source : Source) (a b i : ℕ) (m : Built) (st : State) (h : Holds sou
   settled_at mode.Colon e f = same_mode mode.Colon e
   settled_at mode.After e f = same_mode mode.After e
   settled_at (mode.Word w) e f = same_mode (mode.Word w) e
-  settled_at (mode.Number g from) e f = figures_holds g from e f.0 f.1
+  settled_at (mode.Number g from) e f = figures_holds g from e f
   settled_at (mode.Text r x) e f = same_mode (mode.Text r x) e
 
   pub settled-holds : Prepared (settled st.mode st.values)

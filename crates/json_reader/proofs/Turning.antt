@@ -1,8 +1,7 @@
 -- Each move of the scanner fits the frames.
-use Rattle.std.proofs.Common.{◌≡◌, ℕ, ◌+◌, ◌-◌, ◌*◌, ◌^◌, ◌<◌, ◌≤◌, Bool, true, false, ◌&&◌, eqb, leb, List, [], ◌∷◌, Some, None, Ok, Err, Option, Result, refl, arith}
+use Rattle.std.proofs.Common.{◌≡◌, ℕ, ◌+◌, ◌≤◌, ◌&&◌, eqb, leb, List, [], ◌∷◌, Some, None, Ok, Err, Option, Result, refl, arith}
 use Rattle.std.specs.Char.{is_ascii_digit}
-use Rattle.std.proofs.lemmas.Bool.{cond_both, false≢true, leb-false, or_parts}
-use Rattle.std.proofs.lemmas.Bool.Decides.{nat_tests}
+use Rattle.std.proofs.lemmas.Bool.{cond_both}
 use Rattle.json_scanner.specs.declared.modes.Container.{Container}
 use Rattle.json_scanner.specs.declared.modes.Container.TheVariants as container
 use Rattle.json_scanner.specs.declared.modes.Role.{Role}
@@ -10,9 +9,7 @@ use Rattle.json_scanner.specs.declared.modes.Role.TheVariants as role
 use Rattle.json_scanner.specs.declared.modes.Word.{Word}
 use Rattle.json_scanner.specs.declared.modes.Word.TheVariants as word
 use Rattle.json_scanner.specs.declared.modes.Figures.{Figures}
-use Rattle.json_scanner.specs.declared.modes.Figures.TheVariants as figures
 use Rattle.json_scanner.specs.declared.modes.NumberError.{NumberError}
-use Rattle.json_scanner.specs.declared.modes.NumberError.TheVariants as number_error
 use Rattle.json_scanner.specs.declared.modes.Hex.{Hex}
 use Rattle.json_scanner.specs.declared.modes.Hex.TheVariants as hexes
 use Rattle.json_scanner.specs.declared.modes.Piece.{Piece}
@@ -26,11 +23,11 @@ use Rattle.json_scanner.specs.declared.modes.Mode.TheVariants as mode
 use Rattle.json_scanner.specs.declared.modes.Act.{Act}
 use Rattle.json_scanner.specs.declared.modes.Act.TheVariants as act
 use Rattle.json_scanner.specs.declared.modes.Around.{Around as Surroundings}
-use Rattle.json_scanner.specs.Grammar.{white, hex, hexed, unit, tail, second, plain, lead2, lead3, lead4, simple, power, sign, unfit}
-use Rattle.json_scanner.specs.Bytes.{Moved, Spelling, moved, begun, opening, beginning, keyed, followed, judged, figured, grown, spelled, led, tailed, escaped_by, united, paired, noted, quoted, closing, spelling, letter}
+use Rattle.json_scanner.specs.Grammar.{white, hex, hexed, unit, tail, second, plain, lead2, lead3, lead4, simple}
+use Rattle.json_scanner.specs.Bytes.{Moved, Spelling, moved, begun, opening, beginning, keyed, followed, judged, figured, spelled, led, tailed, escaped_by, united, paired, noted, quoted, closing, spelling, letter}
 use Rattle.json_scanner.specs.Machine.{Frame, bare, sole, items, fields, field, kinds, surroundings}
 use Rattle.std.proofs.Math.Utf8.{scalar}
-use Rattle.json_reader.proofs.Frames.{Ready, Listing, Keyed, Named, Done, Closing, Fit, Sized, Quoting, begun_in, credit}
+use Rattle.json_reader.proofs.Frames.{Ready, Listing, Keyed, Named, Done, Closing, Fit, Quoting, begun_in, credit}
 
 -- how many bytes a piece adds at most
 abbrev pub piece_size : Piece → ℕ
@@ -70,8 +67,8 @@ module _ (m : Mode) (f : Frame) (gs : List Frame) where
       cond_both (white b) _ _ Good (λ _. s)
       (λ _. cond_both (eqb b 91) _ _ Good (λ _. opening_good a mode.First container.List (h, refl))
       (λ _. cond_both (eqb b 123) _ _ Good (λ _. opening_good a mode.FirstKey container.Object (h, refl))
-      (λ _. cond_both (eqb b 45) _ _ Good (λ _. ((h, tt), omega arith, omega arith))
-      (λ _. cond_both (is_ascii_digit b) _ _ Good (λ _. ((h, λ e. absurd (false≢true e)), omega arith, omega arith))
+      (λ _. cond_both (eqb b 45) _ _ Good (λ _. (h, omega arith, omega arith))
+      (λ _. cond_both (is_ascii_digit b) _ _ Good (λ _. (h, omega arith, omega arith))
       (λ _. cond_both (eqb b 34) _ _ Good (λ _. beginning_good a (mode.Text role.Value inside.Plain) (h, omega arith, omega arith))
       (λ _. cond_both (eqb b 110) _ _ Good (λ _. beginning_good a (mode.Word word.N) (h, omega arith, omega arith))
       (λ _. cond_both (eqb b 116) _ _ Good (λ _. beginning_good a (mode.Word word.T) (h, omega arith, omega arith))
@@ -183,29 +180,9 @@ quoted_good role.Value x f gs q = (q, refl, omega arith)
 
 -- ---- numbers
 
-abbrev SizedIfOk : Result Figures NumberError → Type 0
-SizedIfOk (Ok g) = Sized g
-SizedIfOk (Err e) = Unit {0}
-
-grown-sized : (minus : Bool) (n d : ℕ) → SizedIfOk (grown minus n d)
-grown-sized minus n d = cond_both (eqb n 0) _ _ SizedIfOk (λ _. tt) (λ _. cond_both (unfit minus (n * 10 + d)) _ _ SizedIfOk (λ _. tt) (λ e. by minus e))
-  where
-    by : (g : Bool) → unfit g (n * 10 + d) ≡ false → g ≡ true → n * 10 + d ≤ 2 ^ 63
-    by true e _ = let l : n * 10 + d < 9223372036854775809 = leb-false 9223372036854775809 (n * 10 + d) (or_parts (eqb (n * 10 + d) 0) (leb 9223372036854775809 (n * 10 + d)) e).1 in omega arith
-    by false e h = absurd (false≢true h)
-
-figured-sized : (g : Figures) (b : ℕ) → SizedIfOk (figured g b)
-figured-sized figures.Minus b = cond_both (eqb b 48) _ _ SizedIfOk (λ _. tt) (λ _. cond_both (is_ascii_digit b) _ _ SizedIfOk (λ e _. let l : b ≤ 57 = grind (arith, nat_tests) in omega arith) (λ _. tt))
-figured-sized (figures.Whole minus n) b =
-    cond_both (eqb b 46) _ _ SizedIfOk (λ _. tt)
-    (λ _. cond_both (power b) _ _ SizedIfOk (λ _. tt) (λ _. cond_both (is_ascii_digit b) _ _ SizedIfOk (λ _. grown-sized minus n (b - 48)) (λ _. tt)))
-figured-sized figures.Point b = cond_both (is_ascii_digit b) _ _ SizedIfOk (λ _. tt) (λ _. tt)
-figured-sized figures.Power b = cond_both (is_ascii_digit b) _ _ SizedIfOk (λ _. tt) (λ _. cond_both (sign b) _ _ SizedIfOk (λ _. tt) (λ _. tt))
-figured-sized figures.Sign b = cond_both (is_ascii_digit b) _ _ SizedIfOk (λ _. tt) (λ _. tt)
-
-judged_good : (v : Result Figures NumberError) (m : Mode) (f : Frame) (gs : List Frame) (n from i : ℕ) → Ready f gs → SizedIfOk v → Good m f gs (judged v n from i)
-judged_good (Ok g) m f gs n from i h s = ((h, s), omega arith, omega arith)
-judged_good (Err e) m f gs n from i h s = tt
+judged_good : (v : Result Figures NumberError) (m : Mode) (f : Frame) (gs : List Frame) (n from i : ℕ) → Ready f gs → Good m f gs (judged v n from i)
+judged_good (Ok g) m f gs n from i h = (h, omega arith, omega arith)
+judged_good (Err e) m f gs n from i h = tt
 
 pub moved_good : (m : Mode) (f : Frame) (gs : List Frame) (values i b : ℕ) → Fit m f gs → Good m f gs (moved m (surroundings i (kinds f gs) values) b)
 moved_good mode.Want f gs values i b h = begun_good mode.Want f gs mode.Want (surroundings i (kinds f gs) values) b (h, omega arith, omega arith) h
@@ -219,5 +196,5 @@ moved_good mode.Colon f gs values i b h =
     (λ _. cond_both (eqb b 58) _ _ (Good mode.Colon f gs) (λ _. (named_ready f gs h, omega arith, omega arith)) (λ _. tt))
 moved_good mode.After f gs values i b h = cond_both (white b) _ _ (Good mode.After f gs) (λ _. (h, omega arith, omega arith)) (λ _. followed_good f gs values i b h)
 moved_good (mode.Word w) f gs values i b h = cond_both (eqb b (letter w)) _ _ (Good (mode.Word w) f gs) (λ _. word_good f gs w h) (λ _. tt)
-moved_good (mode.Number g from) f gs values i b h = judged_good (figured g b) (mode.Number g from) f gs values from i h.0 (figured-sized g b)
+moved_good (mode.Number g from) f gs values i b h = judged_good (figured g b) (mode.Number g from) f gs values from i h
 moved_good (mode.Text r x) f gs values i b h = cond_both (closing x b) _ _ (Good (mode.Text r x) f gs) (λ _. quoted_good r x f gs h) (λ _. spelled_good r f gs h i x b)

@@ -1,5 +1,5 @@
 -- What each act of the scanner does to what is built.
-use Rattle.std.specs.Prelude.{ℕ, ◌+◌, ◌-◌, List, [], ◌∷◌, length, take, drop, Some, None, Ok, Option, Result}
+use Rattle.std.specs.Prelude.{ℕ, ◌+◌, ◌-◌, ◌^◌, Bool, true, false, cond, List, [], ◌∷◌, length, take, drop, pos, neg_ℤ, Some, None, Ok, Option, Result, nat_le, nat_lt}
 use Rattle.fixed.specs.Listed.{last}
 use Rattle.fixed.specs.Room.{extended}
 use Rattle.json_values.specs.Meaning.{no_entry}
@@ -9,15 +9,13 @@ use Rattle.json_values.specs.declared.table.Cell.{Cell}
 use Rattle.json_values.specs.declared.table.Cell.TheVariants as cell
 use Rattle.json_values.specs.declared.table.Entry.{Entry}
 use Rattle.json_values.specs.declared.table.Span.{Span}
-use Rattle.json_scanner.specs.Bytes.{then, valued as fitted}
+use Rattle.json_scanner.specs.Bytes.{then}
 use Rattle.json_scanner.specs.Machine.{Control, turned, finish, bytes_of}
 use Rattle.json_scanner.specs.declared.modes.Act.{Act}
 use Rattle.json_scanner.specs.declared.modes.Act.TheVariants as act
 use Rattle.json_scanner.specs.declared.modes.Container.{Container}
 use Rattle.json_scanner.specs.declared.modes.Container.TheVariants as container
 use Rattle.json_scanner.specs.declared.modes.Fault.{Fault}
-use Rattle.json_scanner.specs.declared.modes.Number.{Number}
-use Rattle.json_scanner.specs.declared.modes.Number.TheVariants as number
 use Rattle.json_scanner.specs.declared.modes.Numeral.{Numeral}
 use Rattle.json_scanner.specs.declared.modes.Step.{Step}
 use Rattle.json_reader.specs.declared.builder.Open.{Open}
@@ -36,14 +34,14 @@ blank begun = record { pending = []; opens = []; key = no_key; begun = begun; pl
 abbrev pub valued : Cell → ℕ → Notes → Notes
 valued x place n = record n { pending = extended 4096 n.pending (record { key = n.key; place = place; cell = x } ∷ []); key = no_key }
 
-abbrev pub number_cell : Number → Cell
-number_cell (number.Int z) = cell.Int z
-number_cell (number.Uint n) = cell.Uint n
+abbrev pub number_cell : Bool → ℕ → Cell
+number_cell true n = cond (nat_le n (2 ^ 63)) (cell.Int (neg_ℤ (pos n))) (cell.Uint n)
+number_cell false n = cond (nat_lt n (2 ^ 63)) (cell.Int (pos n)) (cell.Uint n)
 
 -- the number that ended, if one did
 abbrev pub numbered : Option Numeral → Notes → Notes
 numbered None n = n
-numbered (Some k) n = valued (number_cell (fitted k.minus k.size)) k.place n
+numbered (Some k) n = valued (number_cell k.minus k.size) k.place n
 
 -- a literal or a text begins at `place`
 abbrev pub beginning_at : ℕ → Notes → Notes

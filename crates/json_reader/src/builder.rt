@@ -4,7 +4,7 @@ ghost use Rattle.fixed.specs.Listed.{last};
 ghost use Rattle.json_reader.specs.Building.{beginning_at, blank, container_cell, cut, named, number_cell, numbered, opened, texted, valued, wrapped_up};
 
 use fixed::list::FixedList;
-use json_scanner::modes::{Container, DEPTH, Number, Numeral, VALUES};
+use json_scanner::modes::{Container, DEPTH, Numeral, VALUES};
 use json_values::parts::{Part, Source};
 use json_values::table::{Cell, Entry, Span};
 use std::alloc::{AllocError, Global};
@@ -39,17 +39,18 @@ impl Model for Builder {
     ghost view = { λ b. record { pending = b.pending; opens = b.opens; key = b.key; begun = b.begun; place = b.place } };
 }
 
-// No `From`: the number and the cell are of two other crates.
-fn number_cell(number: Number) -> Cell
-    ensures { result ≡ number_cell number }
+// An int where it fits, else a uint.
+fn number_cell(minus: bool, size: u64) -> Cell
+    ensures { result ≡ number_cell minus size }
 {
-    match number {
-        Number::Int(n) => Cell::Int(n),
-        Number::Uint(n) => Cell::Uint(n),
+    let magnitude = i128::from(size);
+    match i64::try_from(if minus { -magnitude } else { magnitude }) {
+        Ok(n) => Cell::Int(n),
+        Err(_) => Cell::Uint(size),
     }
 }
 
-// No `From`, likewise.
+// No `From`: the container and the cell are of two other crates.
 fn container_cell(container: Container, span: Span) -> Cell
     ensures { result ≡ container_cell container span }
 {
@@ -106,7 +107,7 @@ impl Builder {
         ensures { self.new ≡ numbered number self.old }
     {
         if let Some(n) = number {
-            self.add_value(number_cell(Number::from(n)), n.place);
+            self.add_value(number_cell(n.minus, n.size), n.place);
         }
     }
 

@@ -80,7 +80,7 @@ text_within n s Other h = tt
 text_within n s (Undeclared t) h = h
 text_within n s (Failure t) h = h
 
-rows_bytes_push : (rs : List BookRow) (r : BookRow) → rows_bytes (rs ++ r ∷ []) ≡ rows_bytes rs + row_bytes r
+pub rows_bytes_push : (rs : List BookRow) (r : BookRow) → rows_bytes (rs ++ r ∷ []) ≡ rows_bytes rs + row_bytes r
 rows_bytes_push [] r = omega arith
 rows_bytes_push (s ∷ rs) r = omega (arith, rows_bytes_push rs r)
 

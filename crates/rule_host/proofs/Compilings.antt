@@ -16,7 +16,7 @@ use Rattle.rule_host.specs.Meaning.{Meaning, Judgement, well, ill}
 -- ---- the first place of an expression
 
 -- what stands there is the expression
-place_some : (e : List ℕ) (acc : List (List ℕ)) (n : ℕ) → place e acc ≡ Some n → (n < length acc) × (get_or acc n [] ≡ e)
+pub place_some : (e : List ℕ) (acc : List (List ℕ)) (n : ℕ) → place e acc ≡ Some n → (n < length acc) × (get_or acc n [] ≡ e)
 place_some e acc n h = let s = position-Some (λ x. bytes_eq x e) acc n [] h in (s.0, (bytes_eq-Decides (get_or acc n []) e).0 s.1)
 
 -- where there is none, the search passes the end
@@ -24,14 +24,14 @@ pub past_end : {X : Type 0} (p : X → Bool) (xs : List X) → position p xs ≡
 past_end p xs h = grind (arith, common_steps)
 
 -- and the expression stands nowhere
-place_none : (e : List ℕ) (acc : List (List ℕ)) → place e acc ≡ None → (k : ℕ) → k < length acc → get_or acc k [] ≡ e → ⊥
+pub place_none : (e : List ℕ) (acc : List (List ℕ)) → place e acc ≡ None → (k : ℕ) → k < length acc → get_or acc k [] ≡ e → ⊥
 place_none e acc h k l q =
     let here = λ (x : List ℕ). bytes_eq x e in
     let past = past_end here acc h in
     both_ways (here (get_or acc k [])) (fails_before_first here acc k [] (omega arith)) ((bytes_eq-Decides (get_or acc k []) e).1 q)
 
 -- one that is put at the end has its place there
-place_push : (e : List ℕ) (acc : List (List ℕ)) → place e acc ≡ None → place e (acc ++ e ∷ []) ≡ Some (length acc)
+pub place_push : (e : List ℕ) (acc : List (List ℕ)) → place e acc ≡ None → place e (acc ++ e ∷ []) ≡ Some (length acc)
 place_push e acc h =
     let here = λ (x : List ℕ). bytes_eq x e in
     let same = (bytes_eq-Decides e e).1 refl in

@@ -1,9 +1,10 @@
 // What a rule host answers.
 ghost use Rattle.std.specs.Prelude.{◌≡◌};
 ghost use Rattle.std.specs.Option.{ForSome};
-ghost use Rattle.rule_host.specs.Outcomes.{text_of, MapsOutcome};
+ghost use Rattle.rule_host.specs.Outcomes.{text_of, outcome_map, MapsOutcome};
+ghost use Rattle.rule_host.specs.Rows.{is_short};
 
-use fixed::text::BoundedText;
+use fixed::text::{BoundedText, MOST};
 
 // What an expression gives at an image. A host's texts are bounded, those of a book that is being made are given, and those of a
 // stored row lie in the book's arena.
@@ -52,5 +53,14 @@ impl<T> Outcome<T> {
             Outcome::Undeclared(name) => Outcome::Undeclared(f(name)),
             Outcome::Failure(text) => Outcome::Failure(f(text)),
         }
+    }
+}
+
+impl<'a> Outcome<&'a [u8]> {
+    // Whether the text, if there is one, is no longer than a host's texts are.
+    pub fn is_short(self) -> bool
+        ensures { result ≡ is_short (outcome_map (λ t. t.now) self.entry) }
+    {
+        self.text().unwrap_or(&[]).len() <= MOST
     }
 }

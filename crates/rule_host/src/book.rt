@@ -147,7 +147,7 @@ impl Book {
         let rows = self.rows.as_slice();
         rows.iter()
             .find(|row| row.expression.of(arena) == expression && row.image.of(arena) == image)
-            .map(|row| row.of(arena))
+            .map(|found| found.of(arena))
     }
 
     // What the first row of an expression and an image says that it gives there.

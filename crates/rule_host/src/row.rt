@@ -5,7 +5,6 @@ ghost use Rattle.rule_host.specs.Stored.{stored_at};
 
 use super::answer::Outcome;
 use fixed::slice::Slice;
-use fixed::text::MOST;
 
 // What an expression gives at an image, and whether the expression mentions `oldSelf`. A row is given and read as bytes, and kept
 // as slices of an arena.
@@ -19,21 +18,21 @@ pub struct Row<T> {
 
 impl<'a> Row<&'a [u8]> {
     // The text of its outcome, which is empty where there is none.
-    pub(crate) fn text(self) -> &'a [u8]
+    pub fn text(self) -> &'a [u8]
         ensures { result.now ≡ text_in (given self.entry).outcome }
     {
         self.outcome.text().unwrap_or(&[])
     }
 
     // Whether that text is no longer than a host's texts are.
-    pub(crate) fn is_short(self) -> bool
+    pub fn is_short(self) -> bool
         ensures { result ≡ is_short (given self.entry).outcome }
     {
-        self.text().len() <= MOST
+        self.outcome.is_short()
     }
 
     // How many bytes it has, or the most that a number says.
-    pub(crate) fn size(self) -> usize
+    pub fn size(self) -> usize
         ensures { result ≡ min (row_bytes (given self.entry)) (2 ^ 64 - 1) }
     {
         let both = self.expression.len().saturating_add(self.image.len());

@@ -8,11 +8,10 @@ mod read;
 pub mod rule;
 mod word;
 
-pub use fixed::slice::Slice;
 pub use mention::mentions;
 pub use path::first_name;
 pub use read::parse;
-pub use rule::{Comparison, Operand, Operator, Refused, Span};
+pub use rule::{Comparison, Operand, Operator, Refused, Slice, Span};
 
 #[cfg(test)]
 mod tests;

@@ -1,5 +1,5 @@
 // What a rule is made of.
-use fixed::slice::Slice;
+pub use fixed::slice::Slice;
 
 #[derive(Clone, Copy, PartialEq, Eq, Debug)]
 pub enum Operator {

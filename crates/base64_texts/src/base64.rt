@@ -44,7 +44,11 @@ impl Octets {
     }
 }
 
+// This and the four functions that follow are inlined where they are called, since then the octets need no memory: a text is
+// gone through several times, four signs at a time.
+
 // The six bits that a sign stands for, or `None` where it is not of the alphabet.
+#[inline(always)]
 fn six_bits(sign: u8) -> Option<u8>
     ensures value { result ≡ sextet sign }
     ensures small { IfSome result (λ v. v < 64) }
@@ -60,6 +64,7 @@ fn six_bits(sign: u8) -> Option<u8>
 }
 
 // `XX==`: eight of the twelve bits are the octet, and the four spare ones have to be zero.
+#[inline(always)]
 fn one(a: u8, b: u8) -> Option<[u8; 1]>
     ensures { result ≡ one_octet a b }
 {
@@ -69,6 +74,7 @@ fn one(a: u8, b: u8) -> Option<[u8; 1]>
 }
 
 // `XXX=`: sixteen of the eighteen bits are the octets, and the two spare ones have to be zero.
+#[inline(always)]
 fn two(a: u8, b: u8, c: u8) -> Option<[u8; 2]>
     ensures { result ≡ two_octets a b c }
 {
@@ -79,6 +85,7 @@ fn two(a: u8, b: u8, c: u8) -> Option<[u8; 2]>
 }
 
 // `XXXX`: all twenty-four bits are octets.
+#[inline(always)]
 fn three(a: u8, b: u8, c: u8, d: u8) -> Option<[u8; 3]>
     ensures { result ≡ three_octets a b c d }
 {
@@ -90,6 +97,7 @@ fn three(a: u8, b: u8, c: u8, d: u8) -> Option<[u8; 3]>
 }
 
 // The octets of four signs. Only the last four of a text may be padded.
+#[inline(always)]
 fn four_signs(signs: [u8; 4], last: bool) -> Option<Octets>
     ensures { option_map octets result ≡ quantum last (slice_index signs 0) (slice_index signs 1) (slice_index signs 2) (slice_index signs 3) }
 {

@@ -33,7 +33,8 @@ pub fn compile_schema<H: RuleHost>(
     ensures named { OnOk result (AllNamed (H.accepted host.new) (map (λ x. rule_said doc.entry.text.now x.rule) (tables tree.new).rules) (map fate_of validations.new)) }
 {
     let loaded = tree.load(doc, root);
-    compile_rules(host, doc.text, tree.rules(), validations)?;
+    let compiled = compile_rules(host, doc.text, tree.rules(), validations);
+    compiled?;
     let root = loaded?;
     Ok(root)
 }

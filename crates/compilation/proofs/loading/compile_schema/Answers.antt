@@ -12,8 +12,8 @@ use Rattle.schema_tree.specs.declared.node.RuleEntry.{RuleEntry}
 use Rattle.std.proofs.lemmas.Result.{err_from_is_err_and}
 use Rattle.compilation.proofs.loading.compile_schema.Goals as goal
 
-pub returns-in_err-compile_rules : goal.returns-in_err-compile_rules
-returns-in_err-compile_rules g c =
+pub returns-in_err-compiled : goal.returns-in_err-compiled
+returns-in_err-compiled g c =
     let h = g.H.RuleHost in
     let m : Meaning = h.meaning c.args.host.now in
     let acc : List (List ℕ) = h.accepted c.args.host.now in
@@ -21,10 +21,10 @@ returns-in_err-compile_rules g c =
     let es = c.args.doc.entries.now in
     let tree = c.load-loaded.new.self in
     let p = err_from_is_err_and c.from_residual.result c.from_residual.ensures.1 in
-    let e = c.compile_rules.ensures in
+    let e = c.compile_rules-compiled.ensures in
     let f = c.load-loaded.ensures.taken in
     let two = two_passes m t (steps 65 t es c.args.root) (progress tree) (result_err c.load-loaded.result) acc f in
-    let x = rw c.in_err-compile_rules.was at e.fated ∙ ap (λ (z : List RuleEntry). all_fated m t z [] acc) c.rules.ensures.value in
+    let x = rw c.in_err-compiled.was at e.fated ∙ ap (λ (z : List RuleEntry). all_fated m t z [] acc) c.rules.ensures.value in
     record {
       kept = e.kept;
       loading = rw (p.1, p.2) (ap (λ (z : Fated). both z (result_err c.load-loaded.result)) x ∙ two);
@@ -43,9 +43,9 @@ returns-in_err-root g c =
     let tree = c.load-loaded.new.self in
     let fault = c.in_err-root.field-0.0 in
     let p = err_from_is_err_and c.from_residual-in_err-root.result c.from_residual-in_err-root.ensures.1 in
-    let e = c.compile_rules.ensures in
+    let e = c.compile_rules-compiled.ensures in
     let two = two_passes m t (steps 65 t es c.args.root) (progress tree) (Some fault) acc c.in_err-root.ensures.taken in
-    let x = rw c.in_ok-compile_rules.was at e.fated ∙ ap (λ (z : List RuleEntry). all_fated m t z [] acc) c.rules.ensures.value in
+    let x = rw c.in_ok-compiled.was at e.fated ∙ ap (λ (z : List RuleEntry). all_fated m t z [] acc) c.rules.ensures.value in
     record {
       kept = e.kept;
       loading = rw (p.1, p.2) (ap (λ (z : Fated). both z (Some fault)) x ∙ two);
@@ -63,10 +63,10 @@ returns g c =
     let es = c.args.doc.entries.now in
     let tree = c.load-loaded.new.self in
     let rs = tree.rules in
-    let e = c.compile_rules.ensures in
+    let e = c.compile_rules-compiled.ensures in
     let f = c.in_ok-root.ensures.taken in
     let two = two_passes m t (steps 65 t es c.args.root) (progress tree) None acc f in
-    let x = rw c.in_ok-compile_rules.was at e.fated ∙ ap (λ (z : List RuleEntry). all_fated m t z [] acc) c.rules.ensures.value in
+    let x = rw c.in_ok-compiled.was at e.fated ∙ ap (λ (z : List RuleEntry). all_fated m t z [] acc) c.rules.ensures.value in
     let none : (all_fated m t rs [] acc).full ≡ None = sym (ap (λ (z : Fated). z.full) x) in
     record {
       kept = e.kept;

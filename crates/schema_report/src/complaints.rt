@@ -98,15 +98,12 @@ impl Complaints<'_> {
         Ok(())
     }
 
-    // The rules of a node.
+    // The rules of a node. Both lists are cut to begin at its first rule: `skip` would go through all that come before.
     fn push_rules(&mut self, node: &Node) -> Result<(), AllocError> {
-        let rules = self.schema.tree().rules().iter();
-        let validations = self.schema.validations().iter();
-        for (entry, validation) in rules
-            .zip(validations)
-            .skip(node.rules.first)
-            .take(node.rules.count)
-        {
+        let first = node.rules.first;
+        let rules = self.schema.tree().rules().get(first..).unwrap_or_default();
+        let validations = self.schema.validations().get(first..).unwrap_or_default();
+        for (entry, validation) in rules.iter().zip(validations).take(node.rules.count) {
             if let Err(error) = validation {
                 self.push_line(entry, error)?;
             }

@@ -53,11 +53,13 @@ pub fn summarize(schema: &CompiledSchema) -> Summary
     ensures { result ≡ summary_of (schema.now) }
 {
     let validations = schema.validations();
+    let invalid = validations.iter().filter(|v| is_invalid(v)).count();
+    let ill = validations.iter().filter(|v| is_ill(v)).count();
     Summary {
         nodes: schema.tree().nodes().len(),
         rules: validations.len(),
-        invalid: validations.iter().filter(|v| is_invalid(v)).count(),
-        ill: validations.iter().filter(|v| is_ill(v)).count(),
+        invalid,
+        ill,
     }
 }
 

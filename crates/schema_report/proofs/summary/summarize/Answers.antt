@@ -22,10 +22,9 @@ returns c =
     let fates = c.args.schema.now.fates in
     let v = c.validations-validations.result.now in
     let e : map fate_of v ≡ fates = c.validations-validations.ensures in
-    let a : c.count.result ≡ count_by (λ x. is_invalid (fate_of x)) v = search rules in
-    let b : c.count-2.result ≡ count_by (λ x. is_ill (fate_of x)) v = search rules in
+    let a : c.count-invalid.result ≡ count_by (λ x. is_invalid (fate_of x)) v = search rules in
+    let b : c.count-ill.result ≡ count_by (λ x. is_ill (fate_of x)) v = search rules in
     let n : length v ≡ length fates = sym (length-map v fate_of) ∙ ap length e in
     let i = a ∙ (sym (count_by-map is_invalid v) ∙ ap (count_by is_invalid) e) in
     let l = b ∙ (sym (count_by-map is_ill v) ∙ ap (count_by is_ill) e) in
-    let m : length c.nodes.result.now ≡ length c.args.schema.now.tables.nodes = search rules in
-    rw (m, n, i, l)
+    search (rules, n, i, l)

@@ -1,7 +1,7 @@
 -- A name taken apart from the front, by what stands at its first two places.
-use Rattle.std.proofs.Common.{◌≡◌, ℕ, ◌-◌, ◌≤◌, Bool, true, false, cond, ◌&&◌, eqb, List, [], ◌∷◌, ◌++◌, length, get_or, take, drop, codes, sym, refl, ap, ◌∙◌, append-nil, arith, eq-eqb, ne_eqb, eqb-true}
+use Rattle.std.proofs.Common.{◌≡◌, ℕ, zero, suc, ◌+◌, ◌-◌, ◌<◌, ◌≤◌, Bool, true, false, cond, ◌&&◌, eqb, List, [], ◌∷◌, ◌++◌, length, get_or, take, drop, codes, sym, refl, ap, ◌∙◌, append-nil, arith, eq-eqb, ne_eqb, eqb-true}
 use Rattle.std.proofs.lemmas.List.{take_rest}
-use Rattle.std.specs.List.{concat}
+use Rattle.std.specs.List.{All, concat}
 use Rattle.escaping.specs.Escape.{replaced, sign, signs}
 
 pair-drop : (s : List ℕ) → 2 ≤ length s → get_or s 0 0 ≡ 95 → get_or s 1 0 ≡ 95 → signs s ≡ codes "__underscores__" ∷ signs (drop 2 s)
@@ -52,3 +52,59 @@ unfolding signs replaced
 signs_joined [] = refl
 signs_joined (a ∷ []) = append-nil (sign a)
 signs_joined (a ∷ (b ∷ s)) = by_joined a b s (eqb a 95 && eqb b 95) (signs_joined s) (signs_joined (b ∷ s))
+
+-- ---- a sign has a text, and takes bytes of the name
+
+by_sign : (P : List ℕ → Type 0) (a : ℕ) (p q r : Bool) → P (codes "__dot__") → P (codes "__dash__") → P (codes "__slash__") → P (a ∷ []) → P (cond p (codes "__dot__") (cond q (codes "__dash__") (cond r (codes "__slash__") (a ∷ []))))
+by_sign P a true q r dot dash slash other = dot
+by_sign P a false true r dot dash slash other = dash
+by_sign P a false false true dot dash slash other = slash
+by_sign P a false false false dot dash slash other = other
+
+sign-long : (a : ℕ) → 0 < length (sign a)
+sign-long a = by_sign (λ t. 0 < length t) a (eqb a 46) (eqb a 45) (eqb a 47) (omega arith) (omega arith) (omega arith) (omega arith)
+
+by_long : (a b : ℕ) (s : List ℕ) (p : Bool) → All (λ t. 0 < length t) (signs s) → All (λ t. 0 < length t) (signs (b ∷ s)) → All (λ t. 0 < length t) (cond p (codes "__underscores__" ∷ signs s) (sign a ∷ signs (b ∷ s)))
+by_long a b s true e f zero d h = omega arith
+by_long a b s true e f (suc k) d h = e k d (omega arith)
+by_long a b s false e f zero d h = sign-long a
+by_long a b s false e f (suc k) d h = f k d (omega arith)
+
+-- no text is empty
+pub signs_long : (s : List ℕ) → All (λ t. 0 < length t) (signs s)
+unfolding signs
+signs_long [] k d h = absurd (omega arith)
+signs_long (a ∷ []) zero d h = sign-long a
+signs_long (a ∷ []) (suc k) d h = absurd (omega arith)
+signs_long (a ∷ (b ∷ s)) k d h = by_long a b s (eqb a 95 && eqb b 95) (signs_long s) (signs_long (b ∷ s)) k d h
+
+-- how many bytes of a name a text stands for: only `__underscores__` is so long
+abbrev taken : List ℕ → ℕ
+taken t = cond (eqb (length t) 15) 2 1
+
+abbrev taken_by : List (List ℕ) → ℕ
+taken_by [] = 0
+taken_by (t ∷ ts) = taken t + taken_by ts
+
+sign-taken : (a : ℕ) → taken (sign a) ≡ 1
+sign-taken a = by_sign (λ t. taken t ≡ 1) a (eqb a 46) (eqb a 45) (eqb a 47) refl refl refl refl
+
+by_taken : (a b : ℕ) (s : List ℕ) (p : Bool) → taken_by (signs s) ≡ length s → taken_by (signs (b ∷ s)) ≡ length (b ∷ s) → taken_by (cond p (codes "__underscores__" ∷ signs s) (sign a ∷ signs (b ∷ s))) ≡ length (a ∷ (b ∷ s))
+by_taken a b s true e f = omega (arith, e)
+by_taken a b s false e f = omega (arith, sign-taken a, f)
+
+signs-taken : (s : List ℕ) → taken_by (signs s) ≡ length s
+unfolding signs
+signs-taken [] = refl
+signs-taken (a ∷ []) = omega (arith, sign-taken a)
+signs-taken (a ∷ (b ∷ s)) = by_taken a b s (eqb a 95 && eqb b 95) (signs-taken s) (signs-taken (b ∷ s))
+
+by_some : (t : List ℕ) (p : Bool) → 0 < cond p 2 1
+by_some t true = omega arith
+by_some t false = omega arith
+
+-- what stands behind the first sign is shorter than the name
+pub signs_shorter : (s text rest : List ℕ) → signs s ≡ text ∷ signs rest → length rest < length s
+signs_shorter s text rest e =
+    let some : 0 < taken text = by_some text (eqb (length text) 15) in
+    omega (arith, some, ap (taken_by) e, signs-taken s, signs-taken rest)

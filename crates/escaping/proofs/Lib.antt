@@ -3,3 +3,4 @@ pub mod Collide
 pub mod Pieces
 pub mod Steps
 pub mod Walk
+pub mod Shared

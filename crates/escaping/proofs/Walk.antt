@@ -1,12 +1,11 @@
 -- The pieces of an escape: reserved words, and what stands around the signs of a name.
-use Rattle.std.proofs.Common.{◌≡◌, ℕ, Bool, true, false, cond, ◌&&◌, List, [], ◌∷◌, ◌++◌, Bor, codes, sym, refl, ap, ◌∙◌, ⊎_elim, append-nil}
-use Rattle.std.specs.Bool.{then_some}
+use Rattle.std.proofs.Common.{◌≡◌, ℕ, Bool, true, false, cond, ◌&&◌, List, [], ◌∷◌, ◌++◌, codes, sym, refl, ap, ◌∙◌, ⊎_elim, append-nil}
 use Rattle.std.specs.List.{concat}
 use Rattle.std.proofs.lemmas.List.Folds.{concat-append}
 use Rattle.std.specs.Str.{bytes_eq}
 use Rattle.std.proofs.lemmas.Slice.Eq.{bytes_eq-Decides}
 use Rattle.std.proofs.lemmas.Bool.{and_parts, false≢true, or_cases}
-use Rattle.escaping.specs.Escape.{escape, member, replaced, reserved, signs, words, wrapped}
+use Rattle.escaping.specs.Escape.{enclosed, escape, member, replaced, reserved, signs, words, wrapped}
 use Rattle.escaping.specs.Left.{beside}
 use Rattle.escaping.proofs.Pieces.{signs_joined}
 
@@ -33,14 +32,20 @@ words-plain = refl
 
 -- ---- the whole
 
-by_around : (s : List ℕ) (b : Bool) (around : Bor (List ℕ)) → reserved s ≡ b → around.now ≡ codes "__" → concat (beside (then_some b around) ++ (signs s ++ beside (then_some b around))) ≡ escape s
-unfolding escape
-by_around s true around r e =
-    let one : concat (around.now ∷ []) ≡ codes "__" = append-nil around.now ∙ e in
-    let text : concat (signs s ++ (around.now ∷ [])) ≡ s ++ codes "__" = concat-append (signs s) (around.now ∷ []) ∙ (ap (λ t. concat (signs s) ++ t) one ∙ ap (λ t. t ++ codes "__") (signs_joined s ∙ member-plain s words words-plain r)) in
-    ap (λ t. t ++ concat (signs s ++ (around.now ∷ []))) e ∙ (ap (λ t. codes "__" ++ t) text ∙ sym (ap (λ b. cond b (wrapped s) (replaced s)) r))
-by_around s false around r e =
-    ap concat (append-nil (signs s)) ∙ (signs_joined s ∙ sym (ap (λ b. cond b (wrapped s) (replaced s)) r))
+by_new : (s : List ℕ) (b : Bool) → concat (beside b ++ (signs s ++ beside b)) ≡ enclosed b (replaced s)
+by_new s true =
+    ap (λ t. codes "__" ++ t) (concat-append (signs s) (beside true) ∙ ap (λ t. t ++ codes "__") (signs_joined s))
+by_new s false = ap concat (append-nil (signs s)) ∙ signs_joined s
 
-pub pieces_joined : (s : List ℕ) (b : Bool) (around : Bor (List ℕ)) → b ≡ reserved s → around.now ≡ codes "__" → concat (beside (then_some b around) ++ (signs s ++ beside (then_some b around))) ≡ escape s
-pieces_joined s b around r e = by_around s b around (sym r) e
+-- the pieces of a name between underscores, or without
+pub pieces_joined : (s : List ℕ) (b : Bool) → concat (beside b ++ (signs s ++ beside b)) ≡ enclosed b (replaced s)
+pieces_joined s b = by_new s b
+
+by_word : (s : List ℕ) (b : Bool) → reserved s ≡ b → enclosed b (replaced s) ≡ escape s
+unfolding escape
+by_word s true r = ap wrapped (member-plain s words words-plain r) ∙ sym (ap (λ b. cond b (wrapped s) (replaced s)) r)
+by_word s false r = sym (ap (λ b. cond b (wrapped s) (replaced s)) r)
+
+-- a name is written out between underscores where it is a reserved word
+pub enclosed_word : (s : List ℕ) (b : Bool) → b ≡ reserved s → enclosed b (replaced s) ≡ escape s
+enclosed_word s b r = by_word s b (sym r)

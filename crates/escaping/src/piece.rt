@@ -2,20 +2,21 @@
 ghost use Rattle.std.specs.Prelude.{◌≡◌, [], ◌∷◌, MatchOption};
 ghost use Rattle.std.specs.Iterator.{YieldsFirstRef, item_count};
 ghost use Rattle.std.specs.List.{concat};
-ghost use Rattle.escaping.specs.Escape.{escape, signs};
+ghost use Rattle.escaping.specs.Escape.{enclosed, escape, replaced, signs};
 ghost use Rattle.escaping.specs.Left.{pieces_left};
 
 use super::words::is_reserved;
+use std::mem;
 
 // What stands on both sides of a reserved word.
 const AROUND: &[u8] = b"__";
 
-// The pieces that are yet to come: what stands before the name, its signs, and what stands behind.
+// The pieces that are yet to come: the signs of a name, and the underscores before and behind it, where they are wanted.
 #[derive(Drop)]
 pub struct Pieces<'a> {
-    before: Option<&'a [u8]>,
+    opens: bool,
     name: &'a [u8],
-    behind: Option<&'a [u8]>,
+    closes: bool,
 }
 
 impl<'a> Pieces<'a> {
@@ -23,11 +24,17 @@ impl<'a> Pieces<'a> {
     pub fn of(name: &'a [u8]) -> Pieces<'a>
         ensures { concat (pieces_left result) ≡ escape name.now }
     {
-        let around = is_reserved(name).then_some(AROUND);
+        Pieces::new(is_reserved(name), name)
+    }
+
+    // Those of a name, or of the rest of one, that is known to be a reserved word or none.
+    pub fn new(wrapped: bool, name: &'a [u8]) -> Pieces<'a>
+        ensures { concat (pieces_left result) ≡ enclosed wrapped (replaced name.now) }
+    {
         Pieces {
-            before: around,
+            opens: wrapped,
             name,
-            behind: around,
+            closes: wrapped,
         }
     }
 }
@@ -40,14 +47,14 @@ impl<'a> Iterator for Pieces<'a> {
     ghost remaining = { item_count pieces_left };
 
     fn next(&mut self) -> Option<&'a [u8]> {
-        if let Some(before) = self.before.take() {
-            return Some(before);
+        if mem::take(&mut self.opens) {
+            return Some(AROUND);
         }
         if let Some((text, rest)) = first_sign(self.name) {
             self.name = rest;
             return Some(text);
         }
-        self.behind.take()
+        mem::take(&mut self.closes).then_some(AROUND)
     }
 }
 

@@ -38,3 +38,13 @@ fn escaped_order(rt: HostRuntime) {
     assert_eq!(rt; compare_escaped(b"true", b"if"), Ordering::Greater);
     assert_eq!(rt; compare_escaped(b"if", b"a"), Ordering::Less);
 }
+
+// What two names share may end within a pair of underscores, and what is left may be a reserved word.
+#[test]
+fn shared_fronts(rt: HostRuntime) {
+    assert_eq!(rt; compare_escaped(b"a__b", b"a_.b"), Ordering::Greater);
+    assert_eq!(rt; compare_escaped(b"a_b", b"a__"), Ordering::Greater);
+    assert_eq!(rt; compare_escaped(b"a___", b"a__b"), Ordering::Less);
+    assert_eq!(rt; compare_escaped(b"xtrue", b"xfalse"), Ordering::Greater);
+    assert_eq!(rt; compare_escaped(b"in", b"int"), Ordering::Less);
+}

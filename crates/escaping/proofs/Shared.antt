@@ -7,8 +7,9 @@ use Rattle.std.proofs.lemmas.Bool.Decides.{nat_tests}
 use Rattle.std.proofs.lemmas.List.{drop_more, get_or_read_under, take_rest}
 use Rattle.order.proofs.Bytewise.{bytes_same}
 use Rattle.order.specs.Bytes.{compare_bytes}
-use Rattle.escaping.specs.Escape.{enclosed, escape, replaced, reserved, sign}
-use Rattle.escaping.proofs.Walk.{enclosed_word}
+use Rattle.escaping.specs.Escape.{escape, replaced, reserved, sign}
+use Rattle.escaping.specs.Left.{spelled}
+use Rattle.escaping.proofs.Walk.{spelled_word}
 use Rattle.escaping.proofs.Collide.{no_collision}
 
 by_same : (x : ℕ) (o : Ordering) → cond (ltb x x) Less (cond (eqb x x) o Greater) ≡ o
@@ -120,9 +121,9 @@ half_passed a b k i p h l e u n =
 -- ---- the whole
 
 -- both names as they stand
-pub words_answer : (a b xs ys : List ℕ) (p q : Bool) (r : Ordering) → p ≡ reserved a → q ≡ reserved b → xs ≡ enclosed p (replaced a) → ys ≡ enclosed q (replaced b) → r ≡ compare_bytes xs ys → r ≡ compare_bytes (escape a) (escape b)
+pub words_answer : (a b xs ys : List ℕ) (p q : Bool) (r : Ordering) → p ≡ reserved a → q ≡ reserved b → xs ≡ spelled p a → ys ≡ spelled q b → r ≡ compare_bytes xs ys → r ≡ compare_bytes (escape a) (escape b)
 words_answer a b xs ys p q r e f g h o =
-    o ∙ (λ i. compare_bytes ((g ∙ enclosed_word a p e) i) ((h ∙ enclosed_word b q f) i))
+    o ∙ (λ i. compare_bytes ((g ∙ spelled_word a p e) i) ((h ∙ spelled_word b q f) i))
 
 -- what is left of both, where neither is a reserved word
 pub names_answer : (a b xs ys : List ℕ) (p q : Bool) (k : ℕ) (r : Ordering) → p ≡ reserved a → q ≡ reserved b → p ≡ false → q ≡ false → xs ≡ replaced (take (length a - k) (drop k a)) → ys ≡ replaced (take (length b - k) (drop k b)) → behind a b k ≡ compare_bytes (replaced a) (replaced b) → r ≡ compare_bytes xs ys → r ≡ compare_bytes (escape a) (escape b)
@@ -130,8 +131,8 @@ names_answer a b xs ys p q k r e f g h l m n o =
     o
     ∙ (λ i. compare_bytes ((l ∙ ap replaced (take_rest a k)) i) ((m ∙ ap replaced (take_rest b k)) i))
     ∙ n
-    ∙ (λ i. compare_bytes (enclosed (sym g i) (replaced a)) (enclosed (sym h i) (replaced b)))
-    ∙ (λ i. compare_bytes (enclosed_word a p e i) (enclosed_word b q f i))
+    ∙ (λ i. compare_bytes (spelled (sym g i) a) (spelled (sym h i) b))
+    ∙ (λ i. compare_bytes (spelled_word a p e i) (spelled_word b q f i))
 
 -- the escapes are equal only where the names are
 pub same_names : (a b : List ℕ) (r : Ordering) → r ≡ compare_bytes (escape a) (escape b) → r ≡ Equal → a ≡ b

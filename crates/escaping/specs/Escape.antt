@@ -33,10 +33,6 @@ signs (a ∷ (b ∷ s)) = cond (a == 95 && b == 95) (codes "__underscores__" ∷
 abbrev pub wrapped : List ℕ → List ℕ
 wrapped s = codes "__" ++ (s ++ codes "__")
 
--- a text with `__` on both sides, or without
-abbrev pub enclosed : Bool → List ℕ → List ℕ
-enclosed b s = cond b (wrapped s) s
-
 -- how any name is written
 unfoldable pub escape : List ℕ → List ℕ
 escape s = cond (reserved s) (wrapped s) (replaced s)

@@ -2,8 +2,8 @@
 ghost use Rattle.std.specs.Prelude.{◌≡◌, [], ◌∷◌, MatchOption};
 ghost use Rattle.std.specs.Iterator.{YieldsFirstRef, item_count};
 ghost use Rattle.std.specs.List.{concat};
-ghost use Rattle.escaping.specs.Escape.{enclosed, escape, replaced, signs};
-ghost use Rattle.escaping.specs.Left.{pieces_left};
+ghost use Rattle.escaping.specs.Escape.{escape, signs};
+ghost use Rattle.escaping.specs.Left.{pieces_left, spelled};
 
 use super::words::is_reserved;
 use std::mem;
@@ -11,16 +11,17 @@ use std::mem;
 // What stands on both sides of a reserved word.
 const AROUND: &[u8] = b"__";
 
-// The pieces that are yet to come: the signs of a name, and the underscores before and behind it, where they are wanted.
+// The pieces that are yet to come: the signs of a name, or a word as a whole between underscores.
 #[derive(Drop)]
 pub struct Pieces<'a> {
     opens: bool,
     name: &'a [u8],
+    word: Option<&'a [u8]>,
     closes: bool,
 }
 
 impl<'a> Pieces<'a> {
-    // A reserved word has no sign that is written out, so it stands for itself between the underscores.
+    #[inline(always)]
     pub fn of(name: &'a [u8]) -> Pieces<'a>
         ensures { concat (pieces_left result) ≡ escape name.now }
     {
@@ -28,13 +29,24 @@ impl<'a> Pieces<'a> {
     }
 
     // Those of a name, or of the rest of one, that is known to be a reserved word or none.
+    #[tactic(auto, using(crate::proofs::Walk::name_joined), unfolding(crate::specs::Escape::signs))]
+    #[inline(always)]
     pub fn new(wrapped: bool, name: &'a [u8]) -> Pieces<'a>
-        ensures { concat (pieces_left result) ≡ enclosed wrapped (replaced name.now) }
+        ensures { concat (pieces_left result) ≡ spelled wrapped name.now }
     {
+        if wrapped {
+            return Pieces {
+                opens: true,
+                name: b"",
+                word: Some(name),
+                closes: true,
+            };
+        }
         Pieces {
-            opens: wrapped,
+            opens: false,
             name,
-            closes: wrapped,
+            word: None,
+            closes: false,
         }
     }
 }
@@ -53,6 +65,9 @@ impl<'a> Iterator for Pieces<'a> {
         if let Some((text, rest)) = first_sign(self.name) {
             self.name = rest;
             return Some(text);
+        }
+        if let Some(word) = self.word.take() {
+            return Some(word);
         }
         mem::take(&mut self.closes).then_some(AROUND)
     }
